@@ -11,6 +11,7 @@ use Rattle.replay_model.specs.declared.page.Tally.{Tally}
 use Rattle.replay_model.specs.declared.step.Step.{Step}
 use Rattle.queue_replay.specs.Counting.{page_draft_view}
 use Rattle.queue_replay.specs.FirstTest.{IsOn}
+use Rattle.queue_replay.specs.Indices.{pids_of}
 use Rattle.queue_replay.specs.Stretches.{IsWithin}
 use Rattle.queue_replay.specs.ReplayState.{replay_state_view, IsGoing, IsPassed, IsStepped, IsUndone}
 use Rattle.runqueue.specs.Queue.{runqueue_view}
@@ -42,7 +43,7 @@ pub passed : (knobs : KnobsView) (cpu : ℕ) (old between new : ReplayState) (st
     → IsStepped knobs cpu (replay_state_view old) old.needs step new
 passed knobs cpu old between new step p e =
     subst (λ (c : ReplayState). IsStepped knobs cpu (replay_state_view old) old.needs step c) (sym e)
-    (inl (p.passes, record { fault = ap (λ x. x.fault) p.passes.1.passes.page; within = p.within }))
+    (inl (p.passes, record { fault = ap (λ x. x.fault) p.passes.1.passes.page; within = p.within; by_rows = p.by_rows }))
 
 -- a step that was undone
 pub undone_state : (old new : ReplayState) → IsUndone old new → replay_state_view new ≡ replay_state_view old
@@ -57,14 +58,16 @@ undone_going old new g h =
     let W : ℕ → List Tally → Type 0 = λ n l. All (IsWithin n) l in
     record {
       fault = ap (λ p. p.fault) g.noted ∙ h.fault;
-      within = subst (λ n. W n new.draft.tallies.table.rows) (sym g.made)
+      within = subst (λ n. W n new.draft.tallies.list.items) (sym g.made)
           (subst (W old.made) (sym (ap (λ p. p.tallies) g.noted)) h.within);
+      by_rows = ap (λ p. pids_of p.tallies) g.noted ∙ h.by_rows ∙ sym g.pids;
     }
 
 pub undone_both : (old mid new : ReplayState) → IsUndone old mid → IsUndone mid new → IsUndone old new
 undone_both old mid new g h = record {
   made = h.made ∙ g.made;
   part = h.part ∙ g.part;
+  pids = h.pids ∙ g.pids;
   since = h.since ∙ g.since;
   needs = h.needs ∙ g.needs;
   noted = h.noted ∙ g.noted;

@@ -1,13 +1,12 @@
 -- How far the tallies have grown after a step.
-use Rattle.std.proofs.Common.{◌≡◌, ℕ, zero, suc, ◌+◌, ◌*◌, ◌^◌, ◌-◌, ◌<◌, ◌≤◌, Bool, true, false, cond, eqb, List, []}
-use Rattle.std.proofs.Common.{◌∷◌, ◌++◌, All, map, Option, Some, None, IfSome, sym, subst, arith, inl, inr}
+use Rattle.std.proofs.Common.{ℕ, zero, suc, ◌+◌, ◌*◌, ◌^◌, ◌≤◌, Bool, true, false, cond, eqb, List, []}
+use Rattle.std.proofs.Common.{◌∷◌, ◌++◌, All, map, Option, Some, None, IfSome, arith}
 use Rattle.std.specs.List.{list_any}
 use Rattle.std.proofs.lemmas.List.Elements.{All-map, All-weaker, All-push}
 use Rattle.replay_model.specs.Noted.{with_tally, new_tally, tallied}
 use Rattle.replay_model.specs.declared.page.Tally.{Tally}
 use Rattle.replay_model.specs.declared.step.Deed.{Deed}
 use Rattle.replay_model.specs.declared.step.Deed.TheVariants.{Switch, Wake, Born, Leave, Arrive}
-use Rattle.cfs_model.specs.declared.task.Task.{Task}
 use Rattle.queue_replay.specs.Stretches.{ran_tally, picked_tally, IsWithin, stretched}
 use Rattle.queue_replay.specs.declared.stretch.Stretch.{Stretch}
 
@@ -76,6 +75,5 @@ tallied_within steps (Leave pid nice dest) tallies w = all_within steps tallies 
 tallied_within steps (Arrive pid nice orig policy) tallies w = with_within steps pid tallies w
 
 -- at the start nobody has run
-pub new_within : (tasks : List Task) → All (IsWithin 0) (map (λ t. new_tally t.pid) tasks)
-new_within tasks = All-map (IsWithin 0) (λ (t : Task). new_tally t.pid) tasks
-    (λ k d h. (omega arith, omega arith, omega arith))
+pub new_within : (pids : List ℕ) → All (IsWithin 0) (map new_tally pids)
+new_within pids = All-map (IsWithin 0) new_tally pids (λ k d h. (omega arith, omega arith, omega arith))

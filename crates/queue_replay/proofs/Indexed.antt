@@ -1,19 +1,24 @@
--- Tallies that are found by a map from their pids: a stretch and a pick change one of them, and a pid gets one at the
--- end.
-use Rattle.std.proofs.Common.{◌≡◌, ◌≢◌, ℕ, zero, suc, ◌+◌, ◌<◌, Bool, true, false, ◌||◌, cond, eqb, List, [], ◌∷◌, ◌++◌}
-use Rattle.std.proofs.Common.{length, map, set, take, get_or, All, None, Some, nat_eq, refl, sym, ap, ◌∙◌, subst, arith}
+-- Tallies that stand by pids: a stretch and a pick change one of them, and a pid gets one at the end.
+use Rattle.std.proofs.Common.{◌≡◌, ◌≢◌, ℕ, zero, suc, ◌+◌, ◌<◌, ◌≤◌, Bool, true, false, ◌||◌, cond, eqb, List, [], ◌∷◌}
+use Rattle.std.proofs.Common.{◌++◌, length, map, set, get_or, All, Option, None, Some, nat_eq, refl, sym, ap, ◌∙◌}
+use Rattle.std.proofs.Common.{subst, arith, length-append}
 use Rattle.std.specs.List.{list_any, IsDistinct}
 use Rattle.std.proofs.lemmas.Bool.{eq-eqb, ne_eqb, cond-true, cond-false}
-use Rattle.std.proofs.lemmas.List.{get_or-map, get_or-take, length-map, length-take-le, map-append, take_more}
+use Rattle.std.proofs.lemmas.List.{length-map, map-append}
 use Rattle.std.proofs.lemmas.List.Elements.{All-head, All-tail}
+use Rattle.std.proofs.lemmas.List.Quantifiers.{position-Some}
 use Rattle.cfs_model.specs.declared.task.Task.{Task}
-use Rattle.replay_model.specs.Noted.{new_tally, with_tally}
+use Rattle.replay_model.specs.Noted.{new_tally, tallied, with_tally}
 use Rattle.replay_model.specs.declared.page.Tally.{Tally}
-use Rattle.runqueue.specs.Tasks.{RisesByPid}
+use Rattle.replay_model.specs.declared.step.Deed.{Deed}
+use Rattle.replay_model.specs.declared.step.Deed.TheVariants.{Switch, Wake, Born, Leave, Arrive}
+use Rattle.runqueue.specs.TaskRows.{with_pid, with_pid_at}
 use Rattle.pid_table.proofs.Indices.{pid_there, pid_nowhere}
-use Rattle.pid_table.specs.Rows.{Rows, AreSound, index_in, with_row}
-use Rattle.queue_replay.specs.Indices.{AreApart, AreOwn}
-use Rattle.queue_replay.specs.Stretches.{ran_tally, picked_tally}
+use Rattle.pid_table.specs.Rows.{Rows, AreSound, index_in}
+use Rattle.queue_replay.specs.Indices.{AreApart, AreOwn, pids_of}
+use Rattle.queue_replay.specs.Rows.{pids_after}
+use Rattle.queue_replay.specs.Stretches.{ran_tally, picked_tally, stretched}
+use Rattle.queue_replay.specs.declared.stretch.Stretch.{Stretch}
 use Rattle.queue_replay.proofs.IndexedBy.{changed_there, key_at, keys_kept, none_by, set_none}
 
 ran_others : (pid time cost : ℕ) (t : Tally) → t.pid ≢ pid → ran_tally pid time cost t ≡ t
@@ -51,34 +56,31 @@ picked_keeps pid t = go (eqb t.pid pid)
     go true = refl
     go false = refl
 
--- a tally after a change for one pid, where that pid's tally is, and where it has none
-module _ (table : Rows Tally) (own : AreOwn table) (apart : AreApart table.rows) where
-  pub ran_there : (pid time cost i : ℕ) (d x : Tally) → i < length table.rows → (get_or table.rows i d).pid ≡ pid
-      → x ≡ ran_tally pid time cost (get_or table.rows i d)
-      → set table.rows i x ≡ map (ran_tally pid time cost) table.rows
+-- a tally after a change for one pid, where that pid's tally is
+module _ (tallies : List Tally) (apart : AreApart tallies) where
+  pub ran_there : (pid time cost i : ℕ) (d x : Tally) → i < length tallies → (get_or tallies i d).pid ≡ pid
+      → x ≡ ran_tally pid time cost (get_or tallies i d)
+      → set tallies i x ≡ map (ran_tally pid time cost) tallies
   ran_there pid time cost i d x h here is =
-      ap (set table.rows i) is ∙ sym (changed_there (λ (tally : Tally). tally.pid) (ran_tally pid time cost) pid
-      (ran_others pid time cost) table.rows apart i d h here)
+      ap (set tallies i) is ∙ sym (changed_there (λ (tally : Tally). tally.pid) (ran_tally pid time cost) pid
+      (ran_others pid time cost) tallies apart i d h here)
 
-  pub ran_own : (pid time cost i : ℕ) (d x : Tally) → i < length table.rows → (get_or table.rows i d).pid ≡ pid
-      → x ≡ ran_tally pid time cost (get_or table.rows i d) → AreOwn (with_row table i x)
-  unfolding AreOwn
-  ran_own pid time cost i d x h here is =
-      ap (map (λ (tally : Tally). tally.pid)) (ran_there pid time cost i d x h here is)
-      ∙ keys_kept (λ (tally : Tally). tally.pid) (ran_tally pid time cost) (ran_keeps pid time cost) table.rows ∙ own
-
-  pub picked_there : (pid i : ℕ) (d x : Tally) → i < length table.rows → (get_or table.rows i d).pid ≡ pid
-      → x ≡ picked_tally pid (get_or table.rows i d) → set table.rows i x ≡ map (picked_tally pid) table.rows
+  pub picked_there : (pid i : ℕ) (d x : Tally) → i < length tallies → (get_or tallies i d).pid ≡ pid
+      → x ≡ picked_tally pid (get_or tallies i d) → set tallies i x ≡ map (picked_tally pid) tallies
   picked_there pid i d x h here is =
-      ap (set table.rows i) is ∙ sym (changed_there (λ (tally : Tally). tally.pid) (picked_tally pid) pid
-      (picked_others pid) table.rows apart i d h here)
+      ap (set tallies i) is ∙ sym (changed_there (λ (tally : Tally). tally.pid) (picked_tally pid) pid
+      (picked_others pid) tallies apart i d h here)
 
-  pub picked_own : (pid i : ℕ) (d x : Tally) → i < length table.rows → (get_or table.rows i d).pid ≡ pid
-      → x ≡ picked_tally pid (get_or table.rows i d) → AreOwn (with_row table i x)
-  unfolding AreOwn
-  picked_own pid i d x h here is =
-      ap (map (λ (tally : Tally). tally.pid)) (picked_there pid i d x h here is)
-      ∙ keys_kept (λ (tally : Tally). tally.pid) (picked_tally pid) (picked_keeps pid) table.rows ∙ own
+-- whose tallies they are stays so
+stretched_pids : (stretch : Option Stretch) (tallies : List Tally)
+    → pids_of (stretched stretch tallies) ≡ pids_of tallies
+stretched_pids None tallies = refl
+stretched_pids (Some s) tallies =
+    keys_kept (λ (tally : Tally). tally.pid) (ran_tally s.pid s.time s.cost) (ran_keeps s.pid s.time s.cost) tallies
+
+picked_pids : (pid : ℕ) (tallies : List Tally) → pids_of (map (picked_tally pid) tallies) ≡ pids_of tallies
+picked_pids pid tallies =
+    keys_kept (λ (tally : Tally). tally.pid) (picked_tally pid) (picked_keeps pid) tallies
 
 -- where a pid's tally is by the table, and that it has none where the table has no row
 module _ (table : Rows Tally) (own : AreOwn table) where
@@ -157,22 +159,81 @@ kept_tally tallies pid i d h e =
     sym (cond-true (list_any (λ t. eqb t.pid pid) tallies) tallies (tallies
     ++ new_tally pid ∷ []) (any_at tallies pid i d h e))
 
--- a tally for each task, where the pids rise
-pub one_more_tally : (tasks : List Task) → RisesByPid tasks → (i : ℕ) (t : Task) → i < length tasks
-    → t ≡ get_or tasks i t
-    → with_tally t.pid (map (λ u. new_tally u.pid) (take i tasks)) ≡ map (λ u. new_tally u.pid) (take (i + 1) tasks)
-one_more_tally tasks rise i t within is =
-    let before : List Tally = map (λ (u : Task). new_tally u.pid) (take i tasks) in
-    let n : length (take i tasks) ≡ i = length-take-le i tasks (omega arith) in
-    let none : All (λ (x : Tally). x.pid ≢ t.pid) before = λ k d h e.
-    let w : k < i = subst (λ m. k < m) (length-map (take i tasks) (λ (u : Task). new_tally u.pid) ∙ n) h in
-    let p : get_or tasks k t ≡ get_or (take i tasks) k t = sym (get_or-take i tasks k t w) in
-    let same : (get_or tasks k t).pid ≡ t.pid = ap (λ (u : Task). u.pid) p
-    ∙ sym (ap (λ (x : Tally). x.pid) (get_or-map (λ (u : Task). new_tally u.pid) (take i tasks) k t d
-    (subst (λ m. k < m) (sym n) w))) ∙ e in
-    let r : (get_or tasks k t).pid < (get_or tasks i t).pid = rise k i t w within in
-    let q : (get_or tasks i t).pid ≡ t.pid = ap (λ (u : Task). u.pid) (sym is) in
-    absurd (omega (arith, r, q, same)) in
-    sym (pushed_tally before t.pid none)
-    ∙ sym (map-append (λ (u : Task). new_tally u.pid) (take i tasks) (t ∷ []))
-    ∙ ap (map (λ (u : Task). new_tally u.pid)) (ap (λ u. take i tasks ++ u ∷ []) is ∙ sym (take_more tasks i t within))
+-- a pid that has a row by now has a tally already, or gets one behind the last
+at_index : (tallies : List Tally) (pid i : ℕ) (d : Tally) → index_in (pids_of tallies) pid ≡ Some i
+    → i < length (pids_of tallies) → tallies ≡ with_tally pid tallies
+at_index tallies pid i d is h =
+    let n : length (pids_of tallies) ≡ length tallies = length-map tallies (λ (tally : Tally). tally.pid) in
+    let within : i < length tallies = subst (λ m. i < m) n h in
+    kept_tally tallies pid i d within
+    (sym (key_at (λ (tally : Tally). tally.pid) tallies i d within) ∙ pid_there (pids_of tallies) pid i d.pid is)
+
+module _ (tallies : List Tally) (pid rows : ℕ) (all : rows ≡ length (with_pid pid (pids_of tallies))) where
+  many : length (pids_of tallies) ≡ length tallies
+  many = length-map tallies (λ (tally : Tally). tally.pid)
+
+  rows_at : (o : Option ℕ) → index_in (pids_of tallies) pid ≡ o → rows ≡ length (with_pid_at o pid (pids_of tallies))
+  rows_at o is = all ∙ ap (λ x. length (with_pid_at x pid (pids_of tallies))) is
+
+  pub tally_added : length tallies < rows → tallies ++ new_tally pid ∷ [] ≡ with_tally pid tallies
+  tally_added more = go (index_in (pids_of tallies) pid) refl
+    where
+      go : (o : Option ℕ) → index_in (pids_of tallies) pid ≡ o → tallies ++ new_tally pid ∷ [] ≡ with_tally pid tallies
+      go None none = pushed_tally tallies pid
+          (none_by (λ (tally : Tally). tally.pid) pid tallies (pid_nowhere (pids_of tallies) pid none))
+      go (Some i) is = let e : rows ≡ length (pids_of tallies) = rows_at (Some i) is in
+          absurd (omega (arith, e, many, more))
+
+  pub tally_there : rows ≤ length tallies → tallies ≡ with_tally pid tallies
+  tally_there no_more = go (index_in (pids_of tallies) pid) refl
+    where
+      go : (o : Option ℕ) → index_in (pids_of tallies) pid ≡ o → tallies ≡ with_tally pid tallies
+      go None none =
+          let e : rows ≡ length (pids_of tallies ++ pid ∷ []) = rows_at None none in
+          let l : length (pids_of tallies ++ pid ∷ []) ≡ length (pids_of tallies) + 1 =
+          length-append (pids_of tallies) (pid ∷ []) in
+          absurd (omega (arith, e, l, many, no_more))
+      go (Some i) is = at_index tallies pid i (new_tally 0) is
+          (position-Some (nat_eq pid) (pids_of tallies) i 0 is).0
+
+-- whose tallies they are after a deed
+named_pids : (pid : ℕ) (tallies : List Tally) → pids_of (with_tally pid tallies) ≡ with_pid pid (pids_of tallies)
+named_pids pid tallies = go (index_in (pids_of tallies) pid) refl
+  where
+    go : (o : Option ℕ) → index_in (pids_of tallies) pid ≡ o
+        → pids_of (with_tally pid tallies) ≡ with_pid pid (pids_of tallies)
+    go None none =
+        ap pids_of (sym (pushed_tally tallies pid
+        (none_by (λ (tally : Tally). tally.pid) pid tallies (pid_nowhere (pids_of tallies) pid none))))
+        ∙ map-append (λ (tally : Tally). tally.pid) tallies (new_tally pid ∷ [])
+        ∙ ap (λ x. with_pid_at x pid (pids_of tallies)) (sym none)
+    go (Some i) is =
+        ap pids_of (sym (at_index tallies pid i (new_tally 0) is
+        (position-Some (nat_eq pid) (pids_of tallies) i 0 is).0))
+        ∙ ap (λ x. with_pid_at x pid (pids_of tallies)) (sym is)
+
+pub tallied_pids : (deed : Deed) (tallies : List Tally)
+    → pids_of (tallied deed tallies) ≡ pids_after deed (pids_of tallies)
+tallied_pids (Switch prev prev_nice way zero next_nice) tallies = refl
+tallied_pids (Switch prev prev_nice way (suc n) next_nice) tallies = picked_pids (suc n) tallies
+tallied_pids (Wake pid nice) tallies = refl
+tallied_pids (Born pid nice policy) tallies = named_pids pid tallies
+tallied_pids (Leave pid nice dest) tallies = refl
+tallied_pids (Arrive pid nice orig policy) tallies = named_pids pid tallies
+
+-- the pids that have a row after a deed that was made, by the tallies with the runner's last stretch
+pub rows_after : (deed : Deed) (stretch : Option Stretch) (first lifted after : List ℕ) (old mid : List Tally)
+    → after ≡ pids_after deed lifted → lifted ≡ first → pids_of old ≡ first → mid ≡ stretched stretch old
+    → after ≡ pids_after deed (pids_of mid)
+rows_after deed stretch first lifted after old mid made same by_rows is =
+    made ∙ ap (pids_after deed) (same ∙ sym by_rows ∙ sym (stretched_pids stretch old) ∙ ap pids_of (sym is))
+
+-- the tallies of those who have done nothing yet
+pub new_pids : (pids : List ℕ) → pids_of (map new_tally pids) ≡ pids
+new_pids [] = refl
+new_pids (pid ∷ pids) = ap (λ l. pid ∷ l) (new_pids pids)
+
+pub new_of_tasks : (tasks : List Task)
+    → map new_tally (map (λ (task : Task). task.pid) tasks) ≡ map (λ (task : Task). new_tally task.pid) tasks
+new_of_tasks [] = refl
+new_of_tasks (task ∷ tasks) = ap (λ l. new_tally task.pid ∷ l) (new_of_tasks tasks)

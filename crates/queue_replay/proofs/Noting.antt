@@ -56,10 +56,10 @@ pub record IsNote (mid : PageDraft) (step : Step) (ticket : Option Ticket) (new 
   pub came : new.came.items ≡ mid.came.items ++ if_came step.deed ticket
   pub births : new.births.items ≡ mid.births.items ++ births_of step.line step.deed
   pub deaths : new.deaths.items ≡ mid.deaths.items ++ deaths_of step.line step.deed
-  pub tallies : new.tallies.table.rows ≡ tallied step.deed mid.tallies.table.rows
+  pub tallies : new.tallies.list.items ≡ tallied step.deed mid.tallies.list.items
 
 pub page_is : (old mid new : PageDraft) (part found : Part) (step : Step) (ticket : Option Ticket) → old.fault ≡ None
-    → IsStretch old mid → mid.tallies.table.rows ≡ charged_tallies part step.time step.charge old.tallies.table.rows
+    → IsStretch old mid → mid.tallies.list.items ≡ charged_tallies part step.time step.charge old.tallies.list.items
     → ticket ≡ ticket_by found step step.deed → IsNote mid step ticket new
     → page_draft_view new ≡ noted (page_draft_view old) part found step
 page_is old mid new part found step ticket none same tallies is n =

@@ -1,8 +1,7 @@
 -- What the page of a replay under way shows, and what a step adds to it (this project's profile).
-use Rattle.std.specs.Prelude.{ℕ, ◌<◌, ⊤, vec_len, vec_capacity, option_to_list, Option, None, [], List}
+use Rattle.std.specs.Prelude.{◌<◌, ⊤, vec_len, vec_capacity, option_to_list, Option, None, [], List}
 use Rattle.replay_model.specs.Deeds.{left_ticket, came_ticket}
 use Rattle.replay_model.specs.Part.{Part}
-use Rattle.replay_model.specs.declared.page.Tally.{Tally}
 use Rattle.replay_model.specs.declared.page.Ticket.{Ticket}
 use Rattle.replay_model.specs.declared.step.Deed.{Deed}
 use Rattle.replay_model.specs.declared.step.Deed.TheVariants.{Switch, Wake, Born, Leave, Arrive}
@@ -19,7 +18,7 @@ page_draft_view draft = record {
   came = draft.came.items;
   births = draft.births.items;
   deaths = draft.deaths.items;
-  tallies = draft.tallies.table.rows;
+  tallies = draft.tallies.list.items;
 }
 
 -- the ticket of a step, if it has one
@@ -42,7 +41,7 @@ abbrev pub HasDraftRoom : Deed → PageDraft → Type 0
 HasDraftRoom (Switch prev prev_nice way next next_nice) draft = vec_len draft.deaths < vec_capacity draft.deaths
 HasDraftRoom (Wake pid nice) draft = ⊤
 HasDraftRoom (Born pid nice policy) draft = (vec_len draft.births < vec_capacity draft.births)
-    × (0 < draft.tallies.table.room)
+    × (vec_len draft.tallies.list < vec_capacity draft.tallies.list)
 HasDraftRoom (Leave pid nice dest) draft = vec_len draft.left < vec_capacity draft.left
 HasDraftRoom (Arrive pid nice orig policy) draft = (vec_len draft.came < vec_capacity draft.came)
-    × (0 < draft.tallies.table.room)
+    × (vec_len draft.tallies.list < vec_capacity draft.tallies.list)

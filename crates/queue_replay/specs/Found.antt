@@ -10,5 +10,5 @@ found_view found = record {
   came = found.came;
   births = found.births;
   deaths = found.deaths;
-  tallies = found.tallies.table.rows;
+  tallies = found.tallies;
 }

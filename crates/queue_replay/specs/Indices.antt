@@ -13,6 +13,9 @@ pub AreOwn-prop : (table : Rows Tally) → IsProp (AreOwn table)
 unfolding AreOwn
 AreOwn-prop table = Prim.hlevel props
 
+abbrev pub pids_of : List Tally → List ℕ
+pids_of tallies = map (λ tally. tally.pid) tallies
+
 -- no two tallies are of one pid
 abbrev pub AreApart : List Tally → Type 0
-AreApart tallies = IsDistinct nat_eq (map (λ tally. tally.pid) tallies)
+AreApart tallies = IsDistinct nat_eq (pids_of tallies)

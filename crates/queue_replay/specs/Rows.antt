@@ -10,7 +10,7 @@ use Rattle.replay_model.specs.QueueTests.{IsMoveHome, IsSelfSwitch, IsPrevNotRun
 use Rattle.replay_model.specs.QueueTests.{IsMoveRunning, IsWrongPrio}
 use Rattle.replay_model.specs.Tests.{Test, NoneHolds, FirstHolds, late_tests}
 use Rattle.replay_model.specs.declared.step.Deed.{Deed}
-use Rattle.replay_model.specs.declared.step.Deed.TheVariants.{Switch}
+use Rattle.replay_model.specs.declared.step.Deed.TheVariants.{Switch, Wake, Born, Leave, Arrive}
 use Rattle.replay_model.specs.declared.step.Step.{Step}
 use Rattle.cfs_model.specs.Knobs.{KnobsView}
 use Rattle.cfs_model.specs.declared.claim.Claim.{Claim}
@@ -24,6 +24,7 @@ use Rattle.queue_replay.specs.declared.context_switch.ContextSwitch.{ContextSwit
 use Rattle.queue_replay.specs.declared.outcome.Outcome.{Outcome}
 use Rattle.queue_replay.specs.declared.outcome.Outcome.TheVariants.{Made, Failed}
 use Rattle.runqueue.specs.Queue.{HoldsSame}
+use Rattle.runqueue.specs.TaskRows.{with_pid}
 use Rattle.runqueue.specs.declared.runqueue.Runqueue.{Runqueue}
 
 -- a switch as a deed
@@ -129,6 +130,20 @@ IsTried knobs cpu part step after (Failed fault) =
 -- the same of a step's deed alone, whatever its line changes
 abbrev pub IsDeedTried : KnobsView → ℕ → Part → Step → Part → Outcome → Type 0
 IsDeedTried knobs cpu part step after outcome = IsTried knobs cpu part (record step { nice = None }) after outcome
+
+-- the pids that have a row at a runqueue, once a deed was made: one that comes has a row by then
+abbrev pub pids_after : Deed → List ℕ → List ℕ
+pids_after (Switch prev prev_nice way next next_nice) pids = pids
+pids_after (Wake pid nice) pids = pids
+pids_after (Born pid nice policy) pids = with_pid pid pids
+pids_after (Leave pid nice dest) pids = pids
+pids_after (Arrive pid nice orig policy) pids = with_pid pid pids
+
+-- the deed made this of the pids that have a row, if the step was made
+abbrev pub NamesMade : {E : Type 0} → Result Outcome E → Deed → Runqueue → Runqueue → Type 0
+NamesMade (Ok (Made made)) deed old new = new.tasks.pids ≡ pids_after deed old.tasks.pids
+NamesMade (Ok (Failed fault)) deed old new = ⊤
+NamesMade (Err error) deed old new = ⊤
 
 -- the map and the set of a runqueue hold what they did, unless the step was made
 abbrev pub HoldsUnmade : {E : Type 0} → Result Outcome E → Runqueue → Runqueue → Type 0

@@ -2,7 +2,7 @@ ghost use Rattle.std.specs.Prelude.{◌≡◌, ℕ, IfOk};
 ghost use Rattle.cfs_model.specs.Knobs.{KnobsView};
 ghost use Rattle.replay_model.specs.declared.step.Deed.TheVariants.{Wake, Born, Leave, Arrive};
 ghost use Rattle.runqueue.specs.Queue.{runqueue_view};
-ghost use Rattle.queue_replay.specs.Rows.{HoldsUnmade, IsDeedTried, switch_deed};
+ghost use Rattle.queue_replay.specs.Rows.{HoldsUnmade, IsDeedTried, NamesMade, switch_deed};
 
 use crate::claimed::{came_ticket, claimed_task, left_ticket, place_of};
 use crate::context_switch::ContextSwitch;
@@ -48,6 +48,7 @@ pub(crate) fn try_deed(
     ensures tried { IfOk result
         (IsDeedTried knobs.now cpu (runqueue_view queue.old) step.now (runqueue_view queue.new)) }
     ensures same { HoldsUnmade result queue.old queue.new }
+    ensures pids { NamesMade result step.now.deed queue.old queue.new }
 {
     let deed = step.deed;
     match deed {
@@ -90,6 +91,7 @@ pub(crate) fn try_switch(
     ensures tried { (cpu : ℕ) → IfOk result
         (IsDeedTried knobs.now cpu (runqueue_view queue.old) step.now (runqueue_view queue.new)) }
     ensures same { HoldsUnmade result queue.old queue.new }
+    ensures pids { NamesMade result step.now.deed queue.old queue.new }
 {
     let prev = queue.switch_task(queue.runner_row(), switch.prev);
     let pid = switch.next;
@@ -121,6 +123,7 @@ pub(crate) fn try_wake(
     ensures tried { (cpu : ℕ) → IfOk result
         (IsDeedTried knobs.now cpu (runqueue_view queue.old) step.now (runqueue_view queue.new)) }
     ensures same { HoldsUnmade result queue.old queue.new }
+    ensures pids { NamesMade result step.now.deed queue.old queue.new }
 {
     let row = queue.row_of(pid);
     let task = queue.task_near(row, pid);
@@ -152,6 +155,7 @@ fn try_birth(
     ensures tried { IfOk result
         (IsDeedTried knobs.now cpu (runqueue_view queue.old) step.now (runqueue_view queue.new)) }
     ensures same { HoldsUnmade result queue.old queue.new }
+    ensures pids { NamesMade result step.now.deed queue.old queue.new }
 {
     let task = queue.task_at(pid);
     if let Some(fault) = first_birth_test(queue, step, pid, &task, knobs) {
@@ -180,6 +184,7 @@ pub(crate) fn try_leave(
     ensures tried { (knobs : KnobsView) → IfOk result
         (IsDeedTried knobs cpu (runqueue_view queue.old) step.now (runqueue_view queue.new)) }
     ensures same { HoldsUnmade result queue.old queue.new }
+    ensures pids { NamesMade result step.now.deed queue.old queue.new }
 {
     let task = queue.task_at(pid);
     if let Some(fault) = first_leave_test(cpu, step.line, pid, nice, dest, &task) {
@@ -203,6 +208,7 @@ pub(crate) fn try_arrival(
     ensures tried { (knobs : KnobsView) → IfOk result
         (IsDeedTried knobs cpu (runqueue_view queue.old) step.now (runqueue_view queue.new)) }
     ensures same { HoldsUnmade result queue.old queue.new }
+    ensures pids { NamesMade result step.now.deed queue.old queue.new }
 {
     let task = queue.task_at(pid);
     if let Some(fault) = first_arrival_test(step, pid, &task) {

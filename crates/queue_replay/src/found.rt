@@ -1,5 +1,4 @@
-use crate::lists::{LifeEvents, Tickets};
-use crate::tally_book::TallyBook;
+use crate::lists::{LifeEvents, Tallies, Tickets};
 use replay_model::StepFault;
 
 /// What the steps of a replay left behind.
@@ -13,5 +12,5 @@ pub(crate) struct Found {
     pub came: Tickets,
     pub births: LifeEvents,
     pub deaths: LifeEvents,
-    pub tallies: TallyBook,
+    pub tallies: Tallies,
 }

@@ -3,7 +3,7 @@ ghost use Rattle.replay_model.specs.Deeds.{reniced};
 ghost use Rattle.replay_model.specs.declared.step.Deed.TheVariants.{Arrive, Leave, Wake};
 ghost use Rattle.replay_model.specs.declared.step.Step.{Step as StepOf};
 ghost use Rattle.runqueue.specs.Queue.{runqueue_view};
-ghost use Rattle.queue_replay.specs.Rows.{HoldsUnmade, IsTried, switch_deed};
+ghost use Rattle.queue_replay.specs.Rows.{HoldsUnmade, IsTried, NamesMade, switch_deed};
 
 use crate::context_switch::ContextSwitch;
 use crate::deeds::{try_arrival, try_leave, try_switch, try_wake};
@@ -29,7 +29,8 @@ pub(crate) trait KnownDeed {
         requires { is_of self.now step.now }
         ensures tried { IfOk result (IsTried knobs.now cpu (reniced step.now.nice (runqueue_view queue.old)) step.now
             (runqueue_view queue.new)) }
-        ensures same { HoldsUnmade result queue.old queue.new };
+        ensures same { HoldsUnmade result queue.old queue.new }
+        ensures pids { NamesMade result step.now.deed queue.old queue.new };
 }
 
 /// Nothing is known.

@@ -21,6 +21,7 @@ mod renice;
 mod replay;
 mod replay_state;
 mod room;
+mod row_tallies;
 mod running;
 mod state;
 mod step_table;

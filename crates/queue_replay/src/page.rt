@@ -127,7 +127,7 @@ impl Page {
     pub fn tallies(&self) -> &[Tally]
         ensures { result.now ≡ self.now.page.tallies }
     {
-        self.found.tallies.tallies()
+        self.found.tallies.as_slice()
     }
 
     /// The processor, and how far the replay went.

@@ -5,13 +5,15 @@ ghost use Rattle.replay_model.specs.declared.step.Deed.{Deed as DeedOf};
 ghost use Rattle.replay_model.specs.declared.step.Deed.TheVariants.{Switch};
 ghost use Rattle.queue_replay.specs.Counting.{HasDraftRoom, page_draft_view, if_left, if_came};
 ghost use Rattle.queue_replay.specs.Found.{found_view};
+ghost use Rattle.queue_replay.specs.Indices.{AreApart, pids_of};
+ghost use Rattle.queue_replay.specs.Rows.{pids_after};
 ghost use Rattle.queue_replay.specs.Stretches.{IsWithin, stretched};
 
 use crate::found::Found;
 use crate::lists::{LifeEvents, Tickets};
 use crate::room::push_in;
+use crate::row_tallies::RowTallies;
 use crate::stretch::Stretch;
-use crate::tally_book::TallyBook;
 use cfs_model::{IDLE_PID, Memory, Way};
 use replay_model::{Deed, LifeEvent, Step, StepFault, Ticket};
 use runqueue::Runqueue;
@@ -28,7 +30,7 @@ pub(crate) struct PageDraft {
     pub births: Vec<LifeEvent>,
     pub deaths: Vec<LifeEvent>,
     /// One for each pid that stood here, in the order in which they first did.
-    pub tallies: TallyBook,
+    pub tallies: RowTallies,
 }
 
 impl PageDraft {
@@ -52,7 +54,7 @@ impl PageDraft {
             came: Tickets::from_vec(came),
             births: LifeEvents::from_vec(births),
             deaths: LifeEvents::from_vec(deaths),
-            tallies,
+            tallies: tallies.into_list(),
         }
     }
 
@@ -98,8 +100,9 @@ impl PageDraft {
     #[inline(always)]
     pub fn note_stretch(&mut self, stretch: Option<Stretch>, expected: usize, steps: usize)
         requires few { steps < 2 ^ 64 - 1 }
-        requires within { All (IsWithin steps) self.old.tallies.table.rows }
-        ensures tallies { self.new.tallies.table.rows ≡ stretched stretch self.old.tallies.table.rows }
+        requires within { All (IsWithin steps) self.old.tallies.list.items }
+        requires apart { AreApart self.old.tallies.list.items }
+        ensures tallies { self.new.tallies.list.items ≡ stretched stretch self.old.tallies.list.items }
         ensures room { (deed : DeedOf) → HasDraftRoom deed self.old → HasDraftRoom deed self.new }
         ensures same { (self.new.line ≡ self.old.line) × (self.new.fault ≡ self.old.fault)
             × (self.new.left ≡ self.old.left) × (self.new.came ≡ self.old.came) × (self.new.births ≡ self.old.births)
@@ -110,8 +113,8 @@ impl PageDraft {
         }
     }
 
-    /// Notes a step that passed, of this deed, with its ticket if it has one. Takes no memory. A tally is expected
-    /// where the row of its task is at the runqueue. Each tally is that of at most so many steps.
+    /// Notes a step that passed, of this deed, with its ticket if it has one. Takes no memory. The tallies stand by the
+    /// rows of the runqueue, but for that of a task that comes. Each is that of at most so many steps.
     #[inline(always)]
     pub fn note(
         &mut self,
@@ -124,14 +127,15 @@ impl PageDraft {
         requires deed { deed ≡ step.now.deed }
         requires room { HasDraftRoom step.now.deed self.old }
         requires few { steps < 2 ^ 64 - 1 }
-        requires within { All (λ tally. tally.picks ≤ steps) self.old.tallies.table.rows }
+        requires within { All (λ tally. tally.picks ≤ steps) self.old.tallies.list.items }
+        requires by_rows { queue.now.tasks.pids ≡ pids_after step.now.deed (pids_of self.old.tallies.list.items) }
         ensures line { self.new.line ≡ step.now.line }
         ensures fault { self.new.fault ≡ self.old.fault }
         ensures left { self.new.left.items ≡ self.old.left.items ++ if_left step.now.deed ticket }
         ensures came { self.new.came.items ≡ self.old.came.items ++ if_came step.now.deed ticket }
         ensures births { self.new.births.items ≡ self.old.births.items ++ births_of step.now.line step.now.deed }
         ensures deaths { self.new.deaths.items ≡ self.old.deaths.items ++ deaths_of step.now.line step.now.deed }
-        ensures tallies { self.new.tallies.table.rows ≡ tallied step.now.deed self.old.tallies.table.rows }
+        ensures tallies { self.new.tallies.list.items ≡ tallied step.now.deed self.old.tallies.list.items }
     {
         self.line = step.line;
         match deed {
@@ -142,6 +146,7 @@ impl PageDraft {
                 ..
             } => {
                 self.note_end(step.line, prev, way);
+                let _pids = queue.pids();
                 if next != IDLE_PID {
                     self.tallies.add_pick(next, queue.runner_row(), steps);
                 }
@@ -155,7 +160,7 @@ impl PageDraft {
                         pid,
                     },
                 );
-                self.tallies.add(pid, queue.row_of(pid));
+                self.tallies.add(pid, queue.pids().len());
             }
             Deed::Leave { .. } => {
                 if let Some(ticket) = ticket {
@@ -166,7 +171,7 @@ impl PageDraft {
                 if let Some(ticket) = ticket {
                     push_in(&mut self.came, ticket);
                 }
-                self.tallies.add(pid, queue.row_of(pid));
+                self.tallies.add(pid, queue.pids().len());
             }
         }
     }

@@ -1,7 +1,7 @@
 ghost use Rattle.std.specs.Prelude.{◌≡◌, Some, IfOk};
 ghost use Rattle.replay_model.specs.Deeds.{reniced};
 ghost use Rattle.runqueue.specs.Queue.{runqueue_view};
-ghost use Rattle.queue_replay.specs.Rows.{HoldsUnmade, IsTried};
+ghost use Rattle.queue_replay.specs.Rows.{HoldsUnmade, IsTried, NamesMade};
 
 use crate::deeds::try_deed;
 use crate::outcome::Outcome;
@@ -21,6 +21,7 @@ pub(crate) fn try_step(
     ensures tried { IfOk result (IsTried knobs.now cpu (reniced step.now.nice (runqueue_view queue.old)) step.now
         (runqueue_view queue.new)) }
     ensures same { HoldsUnmade result queue.old queue.new }
+    ensures pids { NamesMade result step.now.deed queue.old queue.new }
 {
     match step.nice {
         None => try_deed(queue, cpu, step, knobs),
@@ -45,6 +46,7 @@ fn try_reniced(
     ensures tried { IfOk result (IsTried knobs.now cpu (reniced (Some change) (runqueue_view queue.old)) step.now
         (runqueue_view queue.new)) }
     ensures same { HoldsUnmade result queue.old queue.new }
+    ensures pids { NamesMade result step.now.deed queue.old queue.new }
 {
     let pid = change.pid;
     let Some(before) = queue.renice(pid, change.nice) else {

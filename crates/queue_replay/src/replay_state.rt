@@ -286,6 +286,7 @@ impl ReplayState {
         ensures undone { IfOk result (λ found. found ≢ None → IsUndone self.old self.new) }
         ensures memory { OnErr result (IsUndone self.old self.new) }
     {
+        let _pids = self.queue.pids();
         let before = self.queue.unlifted();
         let runner = self.queue.runner();
         let runner_row = self.queue.runner_row();

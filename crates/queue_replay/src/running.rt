@@ -15,7 +15,7 @@ ghost use Rattle.processor_stream.specs.Stream.{stream_view};
 use crate::needs::raise_slack;
 use crate::page_draft::PageDraft;
 use crate::replay_state::{ReplayState, idle_deadline, idled_time, since_after};
-use crate::tally_book::TallyBook;
+use crate::row_tallies::RowTallies;
 use cfs_model::{Amounts, IDLE_PID, Kind, Knobs, Memory, NO_LINE};
 use pid_table::PidHasher;
 use processor_stream::Stream;
@@ -182,7 +182,7 @@ pub(crate) fn before_steps(
         stream.start(),
     )?;
     let since = since_after(None, stream.start(), &queue);
-    let tallies = TallyBook::of_tasks(alloc, hasher, stream.tasks())?;
+    let tallies = RowTallies::of_pids(alloc, queue.pids())?;
     Ok(state_before(alloc, queue, since, tallies))
 }
 
@@ -192,10 +192,11 @@ pub(crate) fn state_before(
     alloc: Global,
     queue: Runqueue,
     since: Option<u64>,
-    tallies: TallyBook,
+    tallies: RowTallies,
 ) -> ReplayState
     ensures made { result.made ≡ 0 }
     ensures part { runqueue_view result.queue ≡ runqueue_view queue }
+    ensures pids { result.queue.tasks.pids ≡ queue.tasks.pids }
     ensures since { result.since ≡ since }
     ensures needs { result.needs ≡ only_slack 0 }
     ensures fault { result.draft.fault ≡ None }

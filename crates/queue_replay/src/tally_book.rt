@@ -1,14 +1,10 @@
-ghost use Rattle.std.specs.Prelude.{◌≡◌, ◌≢◌, ℕ, ◌-◌, ◌^◌, ◌<◌, ◌≤◌, true, false, None, Some, IfOk, OnOk, OnErr, []};
-ghost use Rattle.std.specs.Prelude.{map, get_or, length, All};
+ghost use Rattle.std.specs.Prelude.{◌≡◌, ◌≢◌, ℕ, ◌<◌, None, Some, OnOk, OnErr, [], get_or, length, All};
 ghost use Rattle.replay_model.specs.Noted.{new_tally, with_tally};
 ghost use Rattle.replay_model.specs.declared.page.Tally.{Tally as TallyOf};
 ghost use Rattle.queue_replay.specs.Indices.{AreApart, AreOwn, AreOwn-prop};
-ghost use Rattle.queue_replay.specs.Stretches.{ran_tally, picked_tally, IsWithin};
-ghost use Rattle.runqueue.specs.Tasks.{RisesByPid};
 
-use crate::counting::{add_run, new_tally, pick};
-use crate::stretch::Stretch;
-use cfs_model::{Memory, Task};
+use crate::counting::new_tally;
+use cfs_model::Memory;
 use pid_table::{PidHasher, PidTable};
 use replay_model::Tally;
 use std::alloc::Global;
@@ -22,22 +18,6 @@ pub struct TallyBook {
 }
 
 impl TallyBook {
-    /// A tally for each task, of one that has done nothing yet.
-    pub(crate) fn of_tasks(
-        alloc: Global,
-        hasher: PidHasher,
-        tasks: &[Task],
-    ) -> Result<TallyBook, Memory>
-        requires { RisesByPid tasks.now }
-        ensures { IfOk result (λ book. book.table.rows ≡ map (λ task. new_tally task.pid) tasks.now) }
-    {
-        let mut book = TallyBook::new(alloc, hasher);
-        for task in tasks {
-            book.name(task.pid)?;
-        }
-        Ok(book)
-    }
-
     /// No tally.
     pub fn new(alloc: Global, hasher: PidHasher) -> TallyBook
         ensures { result.table.rows ≡ [] }
@@ -102,34 +82,6 @@ impl TallyBook {
         match self.table.index_near(expected, pid) {
             Some(_) => {}
             None => self.table.add(pid, new_tally(pid)),
-        }
-    }
-
-    /// Adds a stretch of running to the tally of its task, which is expected at an index. Each tally is that of at most
-    /// so many steps.
-    #[inline(always)]
-    pub(crate) fn add_stretch(&mut self, stretch: Stretch, expected: usize, steps: usize)
-        requires few { steps < 2 ^ 64 - 1 }
-        requires within { All (IsWithin steps) self.old.table.rows }
-        ensures tallies { self.new.table.rows
-            ≡ map (ran_tally stretch.pid stretch.time stretch.cost) self.old.table.rows }
-        ensures room { self.new.table.room ≡ self.old.table.room }
-    {
-        if let Some(index) = self.index_near(expected, stretch.pid) {
-            add_run(self.table.row_mut(index), stretch);
-        }
-    }
-
-    /// Adds a switch to the tally of the pid, which is expected at an index. Each tally is that of at most so many
-    /// steps.
-    #[inline(always)]
-    pub(crate) fn add_pick(&mut self, pid: u32, expected: usize, steps: usize)
-        requires few { steps < 2 ^ 64 - 1 }
-        requires within { All (λ tally. tally.picks ≤ steps) self.old.table.rows }
-        ensures { self.new.table.rows ≡ map (picked_tally pid) self.old.table.rows }
-    {
-        if let Some(index) = self.index_near(expected, pid) {
-            pick(self.table.row_mut(index));
         }
     }
 }

@@ -2,8 +2,8 @@ ghost use Rattle.std.specs.Prelude.{◌≡◌, None};
 ghost use Rattle.queue_replay.specs.ReplayState.{IsGoing};
 
 use crate::replay_state::ReplayState;
+use crate::row_tallies::RowTallies;
 use crate::running::{before_steps, end_window, go_through, state_before};
-use crate::tally_book::TallyBook;
 use cfs_model::{Amounts, Knobs, Memory};
 use pid_table::PidHasher;
 use processor_stream::Stream;
@@ -21,9 +21,10 @@ pub struct WindowedReplay {
 }
 
 impl WindowedReplay {
-    ghost use Rattle.std.specs.Prelude.{◌+◌, ◌^◌, ◌<◌, [], IfOk, OnOk, OnErr, length};
+    ghost use Rattle.std.specs.Prelude.{◌+◌, ◌^◌, ◌<◌, [], IfOk, OnOk, OnErr, length, map};
     ghost use Rattle.replay_model.specs.Cut.{StreamView};
     ghost use Rattle.replay_model.specs.Needs.{only_slack};
+    ghost use Rattle.replay_model.specs.Noted.{new_tally};
     ghost use Rattle.replay_model.specs.Page.{IsStartOf, end_page};
     ghost use Rattle.processor_stream.specs.Stream.{stream_view};
     ghost use Rattle.queue_replay.specs.Windowed.{GoesThrough, StopsWithin, windowed_view};
@@ -50,31 +51,31 @@ impl WindowedReplay {
     }
 
     /// The replay of a processor that goes on from where its runqueue stands, and since when the processor has idled
-    /// beside a waiting task, in nanoseconds. It is before its first step: of what was before that it has no tallies.
+    /// beside a waiting task, in nanoseconds. It is before its first step: its tallies have nothing of what was before.
     pub fn of_runqueue(
         alloc: Global,
         cpu: u32,
         knobs: Knobs,
         queue: Runqueue,
         since: Option<u64>,
-        hasher: PidHasher,
-    ) -> WindowedReplay
-        ensures cpu { (windowed_view result).cpu ≡ cpu }
-        ensures knobs { (windowed_view result).knobs ≡ knobs }
-        ensures made { (windowed_view result).made ≡ 0 }
-        ensures part { (windowed_view result).state.part ≡ runqueue_view queue }
-        ensures since { (windowed_view result).state.since ≡ since }
-        ensures fault { (windowed_view result).state.page.fault ≡ None }
-        ensures needs { (windowed_view result).needs ≡ only_slack 0 }
-        ensures lists { let page = (windowed_view result).state.page in (page.left ≡ []) × (page.came ≡ [])
-            × (page.births ≡ []) × (page.deaths ≡ []) × (page.tallies ≡ []) }
+    ) -> Result<WindowedReplay, Memory>
+        ensures cpu { IfOk result (λ replay. (windowed_view replay).cpu ≡ cpu) }
+        ensures knobs { IfOk result (λ replay. (windowed_view replay).knobs ≡ knobs) }
+        ensures made { IfOk result (λ replay. (windowed_view replay).made ≡ 0) }
+        ensures part { IfOk result (λ replay. (windowed_view replay).state.part ≡ runqueue_view queue) }
+        ensures since { IfOk result (λ replay. (windowed_view replay).state.since ≡ since) }
+        ensures fault { IfOk result (λ replay. (windowed_view replay).state.page.fault ≡ None) }
+        ensures needs { IfOk result (λ replay. (windowed_view replay).needs ≡ only_slack 0) }
+        ensures lists { IfOk result (λ replay. let page = (windowed_view replay).state.page in (page.left ≡ [])
+            × (page.came ≡ []) × (page.births ≡ []) × (page.deaths ≡ [])
+            × (page.tallies ≡ map new_tally queue.tasks.pids)) }
     {
-        let tallies = TallyBook::new(alloc, hasher);
-        WindowedReplay {
+        let tallies = RowTallies::of_pids(alloc, queue.pids())?;
+        Ok(WindowedReplay {
             cpu,
             knobs,
             state: state_before(alloc, queue, since, tallies),
-        }
+        })
     }
 
     /// Makes these steps, in their order, up to the first that fails. A step that wants memory isn't made, and none

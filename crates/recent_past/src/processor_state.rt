@@ -33,7 +33,7 @@ impl ProcessorState {
         steps: &[Step],
     ) -> Result<ProcessorState, Memory> {
         let ProcessorState { cpu, queue, since } = self;
-        let mut replay = WindowedReplay::of_runqueue(alloc, cpu, knobs, queue, since, hasher);
+        let mut replay = WindowedReplay::of_runqueue(alloc, cpu, knobs, queue, since)?;
         replay.go_through(steps)?;
         Ok(ProcessorState {
             cpu,

@@ -2,9 +2,11 @@ use Rattle.std.proofs.Common.{◌∙◌, sym, ap, refl, Some, pos}
 use Rattle.replay_model.specs.AfterDeed.{after_deed}
 use Rattle.replay_model.specs.Deeds.{came_ticket, with_entity}
 use Rattle.replay_model.specs.Part.{Entity}
+use Rattle.replay_model.specs.declared.step.Deed.{Deed}
 use Rattle.replay_model.specs.declared.step.Deed.TheVariants.{Arrive}
 use Rattle.runqueue.specs.Queue.{runqueue_view}
-use Rattle.queue_replay.specs.Rows.{arrival_tests}
+use Rattle.queue_replay.specs.Rows.{arrival_tests, pids_after}
+use Rattle.runqueue.specs.TaskRows.{with_pid}
 use Rattle.runqueue.specs.Tasks.{entity_of}
 use Rattle.queue_replay.proofs.Passed.{is_apart, arrival_claimed}
 use Rattle.queue_replay.proofs.Rows.{arrival_row, fails, passes}
@@ -60,3 +62,9 @@ returns-clause-tried c knobs =
     c.place_of.ensures
     ∙ ap (after_deed part deed) (sym c.in-Some-claim.is))
     (c.came_ticket-ticket.ensures ∙ ap (came_ticket part step.line pid nice policy) (sym c.in-Some-claim.is)) refl
+
+pub returns-clause-pids : goal.returns-clause-pids
+returns-clause-pids c =
+    let pids = c.args.queue.now.tasks.pids in
+    c.in_ok-add-in-Some-claim.ensures.pids ∙ ap (λ pid. with_pid pid pids) c.claimed_task.ensures.pid
+    ∙ ap (λ (d : Deed). pids_after d pids) (sym c.requires.1)

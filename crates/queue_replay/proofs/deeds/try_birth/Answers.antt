@@ -4,10 +4,12 @@ use Rattle.replay_model.specs.AfterDeed.{after_deed}
 use Rattle.replay_model.specs.Deeds.{with_entity}
 use Rattle.replay_model.specs.Needs.{IsExcess}
 use Rattle.replay_model.specs.Part.{Entity}
+use Rattle.replay_model.specs.declared.step.Deed.{Deed}
 use Rattle.replay_model.specs.declared.step.Deed.TheVariants.{Born}
 use Rattle.queue_replay.specs.Needing.{IsNeed}
 use Rattle.runqueue.specs.Queue.{runqueue_view}
-use Rattle.queue_replay.specs.Rows.{birth_tests}
+use Rattle.queue_replay.specs.Rows.{birth_tests, pids_after}
+use Rattle.runqueue.specs.TaskRows.{with_pid}
 use Rattle.runqueue.specs.Tasks.{entity_of}
 use Rattle.queue_replay.proofs.Passed.{is_apart, birth_claimed}
 use Rattle.queue_replay.proofs.Rows.{birth_row, fails, passes}
@@ -59,3 +61,9 @@ returns-clause-tried c =
     (subst (λ v. IsExcess v part.floor c.excess-need.result) at
     (subst (λ v. IsExcess (to_z w64 (of_z w64 claim.v)) v c.excess-need.result) (floor
     ∙ c.floor.ensures) c.excess-need.ensures)))
+
+pub returns-clause-pids : goal.returns-clause-pids
+returns-clause-pids c =
+    let pids = c.args.queue.now.tasks.pids in
+    c.in_ok-add-in-Some-claim.ensures.pids ∙ ap (λ pid. with_pid pid pids) c.claimed_task.ensures.pid
+    ∙ ap (λ (d : Deed). pids_after d pids) (sym c.requires)

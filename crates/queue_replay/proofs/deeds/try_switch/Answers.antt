@@ -2,8 +2,9 @@ use Rattle.std.proofs.Common.{◌∙◌, sym, ap, refl, Some, None, option_map}
 use Rattle.replay_model.specs.AfterDeed.{part_after_next}
 use Rattle.replay_model.specs.Deeds.{part_after_prev}
 use Rattle.replay_model.specs.Part.{Part}
+use Rattle.replay_model.specs.declared.step.Deed.{Deed}
 use Rattle.queue_replay.specs.FirstTest.{IsFirst}
-use Rattle.queue_replay.specs.Rows.{switch_deed, switch_tests}
+use Rattle.queue_replay.specs.Rows.{pids_after, switch_deed, switch_tests}
 use Rattle.queue_replay.proofs.Needed.{pick_needs_lead}
 use Rattle.queue_replay.proofs.Passed.{next_stays, pick_tests_same, ran_prev}
 use Rattle.queue_replay.proofs.Rows.{switch_row, fails, passes}
@@ -67,7 +68,12 @@ returns-clause-tried c cpu =
     (switch_tests c.args.knobs.now part (switch_deed s) step.claim)
     (switch_row c.args.knobs.now cpu part s.prev s.prev_nice s.way s.next s.next_nice step.claim) c.requires refl _ _
     first
-    (c.set_next.ensures ∙ ap (λ (p : Part). part_after_next p s.next) (c.in_ok-put_prev.ensures.part s.prev runner))
+    (c.set_next.ensures.part ∙ ap (λ (p : Part). part_after_next p s.next) (c.in_ok-put_prev.ensures.part s.prev runner))
     refl
     (pick_needs_lead part s.prev s.prev_nice s.way s.next s.next_nice own c.lead-need.result c.switch_task-next.ensures
     (c.in_default.ensures.two refl) first.1.1.1.1.1.1.1.0 lead)
+
+pub returns-clause-pids : goal.returns-clause-pids
+returns-clause-pids c =
+    c.set_next.ensures.pids ∙ c.in_ok-put_prev.ensures.pids
+    ∙ ap (λ (d : Deed). pids_after d c.args.queue.now.tasks.pids) (sym c.requires)

@@ -2,10 +2,11 @@ use Rattle.std.proofs.Common.{◌≡◌, ◌∙◌, sym, ap, subst, refl, rules,
 use Rattle.cfs_model.specs.declared.claim.Claim.{Claim}
 use Rattle.replay_model.specs.AfterDeed.{after_deed}
 use Rattle.replay_model.specs.Needs.{IsExcess}
+use Rattle.replay_model.specs.declared.step.Deed.{Deed}
 use Rattle.replay_model.specs.declared.step.Deed.TheVariants.{Wake}
 use Rattle.queue_replay.specs.Needing.{IsNeed}
 use Rattle.runqueue.specs.Queue.{runqueue_view}
-use Rattle.queue_replay.specs.Rows.{wake_tests}
+use Rattle.queue_replay.specs.Rows.{pids_after, wake_tests}
 use Rattle.queue_replay.proofs.Passed.{unwoken}
 use Rattle.queue_replay.proofs.Rows.{wake_row, fails, passes}
 use Rattle.queue_replay.proofs.deeds.try_wake.Goals as goal
@@ -46,3 +47,10 @@ returns-clause-tried c cpu =
     (subst (λ v. IsExcess part.floor v c.excess-need.result) at
     (subst (λ v. IsExcess v (to_z w64 (of_z w64 claim.v)) c.excess-need.result) (floor
     ∙ c.floor.ensures) c.excess-need.ensures)))
+
+pub returns-in_default-claim-clause-pids : goal.returns-in_default-claim-clause-pids
+returns-in_default-claim-clause-pids c = ap (λ (d : Deed). pids_after d c.args.queue.now.tasks.pids) (sym c.requires)
+
+pub returns-clause-pids : goal.returns-clause-pids
+returns-clause-pids c =
+    c.in_ok-wake.ensures.pids ∙ ap (λ (d : Deed). pids_after d c.args.queue.now.tasks.pids) (sym c.requires)

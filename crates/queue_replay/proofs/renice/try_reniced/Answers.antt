@@ -1,6 +1,6 @@
-use Rattle.std.proofs.Common.{Ok, subst, sym, ◌∙◌}
+use Rattle.std.proofs.Common.{Ok, ap, subst, sym, ◌∙◌}
 use Rattle.cfs_model.specs.declared.memory.Memory.{Memory}
-use Rattle.queue_replay.specs.Rows.{HoldsUnmade, IsDeedTried}
+use Rattle.queue_replay.specs.Rows.{HoldsUnmade, IsDeedTried, NamesMade, pids_after}
 use Rattle.queue_replay.specs.declared.outcome.Outcome.{Outcome}
 use Rattle.queue_replay.specs.declared.outcome.Outcome.TheVariants.{Made, Failed}
 use Rattle.replay_model.specs.Part.{Part}
@@ -56,3 +56,10 @@ returns-in-Err-clause-same c =
     c.args.change.nice c.in-Some.before
     c.renice.ensures.reniced c.in-Err.ensures.same c.renice-in-Err.ensures.reniced (sym c.in-Some.is
     ∙ c.renice.ensures.before)
+
+pub returns-in-Ok-Made-clause-pids : goal.returns-in-Ok-Made-clause-pids
+returns-in-Ok-Made-clause-pids c =
+    let N : Outcome → Type 0 = λ o. NamesMade {E = Memory} (Ok o) c.args.step.now.deed c.renice.new.self
+    c.try_deed.new.queue in
+    subst N c.in-Ok-Made.field-0-is c.in-Ok-Made.ensures.pids
+    ∙ ap (pids_after c.args.step.now.deed) c.renice.ensures.reniced.pids

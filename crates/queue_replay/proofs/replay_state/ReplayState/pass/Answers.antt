@@ -1,5 +1,5 @@
 use Rattle.std.proofs.Common.{◌≡◌, ◌≢◌, ℕ, Ok, ◌∙◌, ◌+◌, ◌-◌, List, All, Option, Some, None, IfSome, option_map, sym}
-use Rattle.std.proofs.Common.{ap, subst, inr, refl}
+use Rattle.std.proofs.Common.{ap, subst, inr, refl, nat_eq}
 use Rattle.cfs_model.specs.declared.charge_line.ChargeLine.{ChargeLine}
 use Rattle.cfs_model.specs.Least.{larger}
 use Rattle.cfs_model.specs.declared.memory.Memory.{Memory}
@@ -14,11 +14,14 @@ use Rattle.queue_replay.specs.Stretches.{IsWithin, stretch_between, stretched}
 use Rattle.queue_replay.specs.declared.stretch.Stretch.{Stretch}
 use Rattle.queue_replay.specs.Needing.{step_needs}
 use Rattle.queue_replay.specs.ReplayState.{replay_state_view}
-use Rattle.queue_replay.specs.Rows.{HoldsUnmade, IsTried}
+use Rattle.queue_replay.specs.Rows.{HoldsUnmade, IsTried, NamesMade}
 use Rattle.runqueue.specs.Queue.{runqueue_view}
 use Rattle.queue_replay.specs.declared.outcome.Outcome.{Outcome}
 use Rattle.queue_replay.proofs.Counts.{charged_same}
 use Rattle.queue_replay.proofs.Faults.{fails_later}
+use Rattle.std.specs.List.{IsDistinct}
+use Rattle.queue_replay.specs.Indices.{pids_of}
+use Rattle.queue_replay.proofs.Indexed.{rows_after, tallied_pids}
 use Rattle.queue_replay.proofs.Growing.{IsRan, ran_picks, stretched_ran, tallied_within}
 use Rattle.queue_replay.proofs.Needed.{need_reniced, needs_of_step}
 use Rattle.queue_replay.proofs.Noting.{page_is}
@@ -84,13 +87,27 @@ drift_need-drift-requires g c =
     stands_after c.drift.result c.args.step.now.time (runqueue_view c.args.self.now.queue)
     (runqueue_view c.lift.new.self) c.args.step.now.charge l.told l.lifted
 
+pub note_stretch-requires-clause-apart : goal.note_stretch-requires-clause-apart
+note_stretch-requires-clause-apart g c =
+    subst (IsDistinct nat_eq) (sym c.requires.going.by_rows) c.pids-pids.ensures.apart
+
+pub note-requires-clause-by_rows : goal.note-requires-clause-by_rows
+note-requires-clause-by_rows g c =
+    let old = c.args.self.now in
+    let deed = c.args.step.now.deed in
+    let N : Outcome → Type 0 = λ o. NamesMade {E = Memory} (Ok o) deed c.lift.new.self c.try_on.new.queue in
+    rows_after deed c.stretch_between-stretch.result old.queue.tasks.pids c.lift.new.self.tasks.pids
+    c.try_on.new.queue.tasks.pids old.draft.tallies.list.items c.note_stretch.new.self.tallies.list.items
+    (subst N c.in-Ok-Made.field-0-is c.in-Ok-Made.ensures.pids) c.lift.ensures.same.pids c.requires.going.by_rows
+    c.note_stretch.ensures.tallies
+
 pub note-requires-clause-within : goal.note-requires-clause-within
 note-requires-clause-within g c =
     let old = c.args.self.now in
-    let ran = stretched_ran old.made c.stretch_between-stretch.result old.draft.tallies.table.rows
+    let ran = stretched_ran old.made c.stretch_between-stretch.result old.draft.tallies.list.items
     c.stretch_between-stretch.ensures.bounds c.requires.going.within in
     let P : List Tally → Type 0 = λ l. All (IsRan old.made) l in
-    ran_picks old.made c.note_stretch.new.self.tallies.table.rows (subst P (sym c.note_stretch.ensures.tallies) ran)
+    ran_picks old.made c.note_stretch.new.self.tallies.list.items (subst P (sym c.note_stretch.ensures.tallies) ran)
 
 pub returns-clause-passes : goal.returns-clause-passes
 returns-clause-passes g c _ =
@@ -110,10 +127,11 @@ returns-clause-passes g c _ =
     let needs = step_needs step.deed made.need c.idled_time-idled.result c.drift_need-drift.result in
     let mid = c.note_stretch.new.self in
     let s = c.note_stretch.ensures.same in
-    let ran = stretched_ran old.made c.stretch_between-stretch.result old.draft.tallies.table.rows
+    let ran = stretched_ran old.made c.stretch_between-stretch.result old.draft.tallies.list.items
     c.stretch_between-stretch.ensures.bounds c.requires.going.within in
     let P : List Tally → Type 0 = λ x. All (IsRan old.made) x in
     let W : List Tally → Type 0 = λ x. All (IsWithin (old.made + 1)) x in
+    let N : Outcome → Type 0 = λ o. NamesMade {E = Memory} (Ok o) step.deed c.lift.new.self c.try_on.new.queue in
     record {
       passes = (
         needs,
@@ -133,13 +151,13 @@ returns-clause-passes g c _ =
                 (reniced step.nice lifted) step c.in-Ok-Made.made.ticket c.requires.going.fault
                 (record { line = s.0; fault = s.1; left = s.2; came = s.3; births = s.4; deaths = s.5 })
                 (c.note_stretch.ensures.tallies
-                ∙ ap (λ (s : Option Stretch). stretched s old.draft.tallies.table.rows)
+                ∙ ap (λ (s : Option Stretch). stretched s old.draft.tallies.list.items)
                 (c.stretch_between-stretch.ensures.same
                 ∙ ap (λ n. stretch_between c.runner-runner.result c.runner.result n) (c.saturating_sub-time.ensures
                 ∙ ap (λ n. step.time - n) c.mark.ensures))
                 ∙ sym (charged_same (runqueue_view q) lifted step.time step.charge c.runner-runner.result
                 c.runner.result c.runner-runner.ensures l.lifted c.runner.ensures
-                old.draft.tallies.table.rows))
+                old.draft.tallies.list.items))
                 tried.2
                 (let n = c.note.ensures in record {
                   line = n.line;
@@ -160,5 +178,10 @@ returns-clause-passes g c _ =
             c.drift_need-drift.result)) c.requires.deed c.raise.ensures,
       );
       within = subst W (sym c.note.ensures.tallies)
-          (tallied_within old.made step.deed mid.tallies.table.rows (subst P (sym c.note_stretch.ensures.tallies) ran));
+          (tallied_within old.made step.deed mid.tallies.list.items (subst P (sym c.note_stretch.ensures.tallies) ran));
+      by_rows = ap pids_of c.note.ensures.tallies ∙ tallied_pids step.deed mid.tallies.list.items
+          ∙ sym (rows_after step.deed c.stretch_between-stretch.result q.tasks.pids c.lift.new.self.tasks.pids
+          c.try_on.new.queue.tasks.pids old.draft.tallies.list.items mid.tallies.list.items
+          (subst N c.in-Ok-Made.field-0-is c.in-Ok-Made.ensures.pids) c.lift.ensures.same.pids
+          c.requires.going.by_rows c.note_stretch.ensures.tallies);
     }

@@ -33,12 +33,12 @@ impl TallyBook {
         ensures same { OnErr result (self.new.table.rows ≡ self.old.table.rows) }
     {
         self.make_room()?;
-        self.add(pid, usize::MAX);
+        self.add(pid);
         Ok(())
     }
 
     /// Makes the growth that one more tally needs.
-    pub(crate) fn make_room(&mut self) -> Result<(), Memory>
+    fn make_room(&mut self) -> Result<(), Memory>
         ensures room { OnOk result (0 < self.new.table.room) }
         ensures same { self.new.table.rows ≡ self.old.table.rows }
     {
@@ -74,12 +74,12 @@ impl TallyBook {
         self.table.index_near(expected, pid)
     }
 
-    /// Lets the pid have a tally, which is expected at an index. Takes no memory.
-    pub(crate) fn add(&mut self, pid: u32, expected: usize)
+    /// Lets the pid have a tally. Takes no memory.
+    fn add(&mut self, pid: u32)
         requires { 0 < self.old.table.room }
         ensures { self.new.table.rows ≡ with_tally pid self.old.table.rows }
     {
-        match self.table.index_near(expected, pid) {
+        match self.table.index_of(pid) {
             Some(_) => {}
             None => self.table.add(pid, new_tally(pid)),
         }

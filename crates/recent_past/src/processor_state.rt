@@ -29,7 +29,6 @@ impl ProcessorState {
         self,
         alloc: Global,
         knobs: Knobs,
-        hasher: PidHasher,
         steps: &[Step],
     ) -> Result<ProcessorState, Memory> {
         let ProcessorState { cpu, queue, since } = self;

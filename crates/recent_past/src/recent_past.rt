@@ -196,7 +196,7 @@ impl RecentPast {
     pub fn state_before(&self, cpu: u32, line: u32) -> Result<ProcessorState, Memory> {
         let steps = self.steps_before(cpu, line)?;
         self.first_state(cpu)?
-            .after(self.alloc, self.knobs, self.hasher, steps.as_slice())
+            .after(self.alloc, self.knobs, steps.as_slice())
     }
 
     /// How tasks were placed that wait at a processor before a line that is kept. There is none of a task that waits
@@ -283,7 +283,7 @@ impl RecentPast {
         end: usize,
     ) -> Result<ProcessorState, Memory> {
         let between = steps.get(from..end).unwrap_or(&[]);
-        state.after(self.alloc, self.knobs, self.hasher, between)
+        state.after(self.alloc, self.knobs, between)
     }
 }
 

@@ -16,14 +16,14 @@ returns-in-None c =
     let book = c.args.self.now in
     c.add.ensures.rows ∙ ap (λ t. book.table.rows ++ t ∷ []) c.new_tally.ensures
     ∙ pushed_tally book.table.rows c.args.pid
-    (own_nowhere book.table book.own c.args.pid (sym c.index_near.ensures.index ∙ c.in-None.is))
+    (own_nowhere book.table book.own c.args.pid (sym c.index_of.ensures.index ∙ c.in-None.is))
 
 pub returns-in-Some : goal.returns-in-Some
 returns-in-Some c =
     let book = c.args.self.now in
     let index = c.in-Some.field-0 in
     let is = c.in-Some.is in
-    let e = c.index_near.ensures in
+    let e = c.index_of.ensures in
     let within = subst (λ r. IfSome r (λ p. p < length book.table.rows)) is e.within in
     kept_tally book.table.rows c.args.pid index (new_tally 0) within
     (own_there book.table book.own c.args.pid index (new_tally 0) (sym e.index ∙ is) within)

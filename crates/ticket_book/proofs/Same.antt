@@ -9,10 +9,10 @@ use Rattle.ticket_book.specs.Same.{is_same_summary}
 
 tally_decides : (a b : Tally) → Decides ((tally_eq.ghosts).eq a b) (a ≡ b)
 tally_decides a b =
-    Decides-like _ (λ h i. record { pid = h.0 i; ran = h.1.0 i; charged = h.1.1.0 i; picks = h.1.1.1 i })
+    Decides-like _ (λ h i. record { ran = h.0 i; charged = h.1.0 i; picks = h.1.1.0 i; pid = h.1.1.1 i })
     (λ e. (cc, (cc, (cc, cc))))
-    (Decides-and _ _ (Decides-eqb a.pid b.pid) (Decides-and _ _ (Decides-eqb a.ran b.ran)
-    (Decides-and _ _ (Decides-eqb a.charged b.charged) (Decides-eqb a.picks b.picks))))
+    (Decides-and _ _ (Decides-eqb a.ran b.ran) (Decides-and _ _ (Decides-eqb a.charged b.charged)
+    (Decides-and _ _ (Decides-eqb a.picks b.picks) (Decides-eqb a.pid b.pid))))
 
 -- two summaries say the same where each of what they say is equal
 pub is_same_summary_decides : (a b : SummaryView) → Decides (is_same_summary a b) (a ≡ b)

@@ -6,13 +6,14 @@ use std::io;
 use std::io::Read;
 use std::mem::swap;
 
-/// The last reads of a text. A line of the latest but one, which is audited while the latest is read, may begin in the
-/// one before it, so there are three.
+/// The last reads of a text. While the latest is made, the one before it is joined, and the one before that is audited.
+/// A line of that one may begin in one more, so there are four.
 #[derive(Drop)]
 pub(crate) struct KeptReads {
     first: KeptRead,
     second: KeptRead,
     third: KeptRead,
+    fourth: KeptRead,
 }
 
 impl KeptReads {
@@ -22,6 +23,7 @@ impl KeptReads {
             first: KeptRead::empty(alloc),
             second: KeptRead::empty(alloc),
             third: KeptRead::empty(alloc),
+            fourth: KeptRead::empty(alloc),
         }
     }
 
@@ -29,14 +31,16 @@ impl KeptReads {
     pub(crate) fn push(&mut self, begins: Checkpoint, bytes: &[u8]) -> Result<(), AllocError> {
         swap(&mut self.first, &mut self.second);
         swap(&mut self.second, &mut self.third);
-        self.third.take(begins, bytes)
+        swap(&mut self.third, &mut self.fourth);
+        self.fourth.take(begins, bytes)
     }
 
     /// Keeps the same reads as another one.
     pub(crate) fn copy_from(&mut self, other: &KeptReads) -> Result<(), AllocError> {
         self.first.copy_from(&other.first)?;
         self.second.copy_from(&other.second)?;
-        self.third.copy_from(&other.third)
+        self.third.copy_from(&other.third)?;
+        self.fourth.copy_from(&other.fourth)
     }
 
     /// Whether they begin before the line of this number, from 1.
@@ -49,7 +53,8 @@ impl KeptReads {
         let first = self.first.bytes.as_slice();
         let text = first
             .chain(self.second.bytes.as_slice())
-            .chain(self.third.bytes.as_slice());
+            .chain(self.third.bytes.as_slice())
+            .chain(self.fourth.bytes.as_slice());
         line_of(alloc, text, number.saturating_sub(self.first.begins.lines))
     }
 }

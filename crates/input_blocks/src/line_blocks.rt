@@ -22,6 +22,8 @@ pub struct LineBlocks {
     size: u32,
     /// How many reads were made.
     reads: u64,
+    /// Whether the last of them gave the end.
+    ended: bool,
     ghost within: { held.length ≤ vec_len bytes },
     ghost some: { 0 < size },
     ghost small: { size < 2 ^ 32 },
@@ -31,7 +33,7 @@ pub struct LineBlocks {
 
 impl LineBlocks {
     ghost use Rattle.std.specs.Prelude.{◌≡◌, ◌⊎◌, ◌==◌, ◌+◌, ◌++◌, ℕ, List, Option, true, false, not};
-    ghost use Rattle.std.specs.Prelude.{IfOk, IfErr, OnOk, take, drop};
+    ghost use Rattle.std.specs.Prelude.{IfOk, IfErr, OnOk, max, take, drop};
     ghost use Rattle.std.specs.Io.KnownBytes.{Consumes, IsAtEnd};
     ghost use Rattle.audit_input.specs.Known.{Agrees, IsCutShort};
     ghost use Rattle.input_blocks.specs.Blocks.{ComesTo, IsAmid, IsFresh};
@@ -46,6 +48,7 @@ impl LineBlocks {
             held: NOTHING,
             size,
             reads: 0,
+            ended: false,
         }
     }
 
@@ -71,6 +74,11 @@ impl LineBlocks {
         ensures heard { OnOk result (F.has_failed feed.new ≡ F.has_failed feed.old) }
         ensures cut_short { IfErr result (λ e. ((e ≡ Fault.Memory) × (F.has_failed feed.new ≡ F.has_failed feed.old))
             ⊎ ((e ≡ fault) × IsCutShort (F.has_failed feed.new) (F.calls feed.new))) }
+        ensures never_fewer { self.old.reads ≤ self.new.reads }
+        ensures told { OnOk result (F.has_ended feed.new ≡ self.new.ended) }
+        // Where memory is wanted, the blocks tell all the same how the input stands.
+        ensures wanted { IfErr result (λ e. (e ≡ fault)
+            ⊎ ((F.calls feed.new ≡ self.new.reads) × (F.has_ended feed.new ≡ self.new.ended))) }
     {
         lines_after_whole();
         let count = self.read_once(feed, fault)?;
@@ -101,12 +109,17 @@ impl LineBlocks {
         ensures ended { IfOk result (λ goes_on. F.has_ended feed.new ≡ not goes_on) }
         ensures counted { OnOk result (F.calls feed.new ≡ self.new.reads) }
         ensures read_on { OnOk result (self.old.reads < self.new.reads) }
-        ensures no_more { OnOk result (0 < most → self.new.reads ≤ self.old.reads + most) }
+        ensures no_more { OnOk result (self.new.reads ≤ self.old.reads + max 1 most) }
         ensures so_many { IfOk result (λ goes_on. goes_on ≡ true → self.old.reads + most ≤ self.new.reads) }
         ensures bounded { F.calls feed.new ≤ most_reads }
         ensures heard { OnOk result (F.has_failed feed.new ≡ F.has_failed feed.old) }
         ensures cut_short { IfErr result (λ e. ((e ≡ Fault.Memory) × (F.has_failed feed.new ≡ F.has_failed feed.old))
             ⊎ ((e ≡ fault) × IsCutShort (F.has_failed feed.new) (F.calls feed.new))) }
+        ensures never_fewer { self.old.reads ≤ self.new.reads }
+        ensures told { OnOk result (F.has_ended feed.new ≡ self.new.ended) }
+        // Where memory is wanted, the blocks tell all the same how the input stands.
+        ensures wanted { IfErr result (λ e. (e ≡ fault)
+            ⊎ ((F.calls feed.new ≡ self.new.reads) × (F.has_ended feed.new ≡ self.new.ended))) }
     {
         lines_after_whole();
         let mut goes_on = self.next(feed, reader, fault)?;
@@ -116,6 +129,13 @@ impl LineBlocks {
             left -= 1;
         }
         Ok(goes_on)
+    }
+
+    /// Whether the last read gave the end.
+    pub fn has_ended(&self) -> bool
+        ensures { result ≡ self.now.ended }
+    {
+        self.ended
     }
 
     /// Reads to the end, and lets go what comes. Where a read fails, or the most reads don't reach the end, this fault.
@@ -130,6 +150,7 @@ impl LineBlocks {
         ensures heard { OnOk result (F.has_failed feed.new ≡ F.has_failed feed.old) }
         ensures cut_short { IfErr result (λ e. ((e ≡ Fault.Memory) × (F.has_failed feed.new ≡ F.has_failed feed.old))
             ⊎ ((e ≡ fault) × IsCutShort (F.has_failed feed.new) (F.calls feed.new))) }
+        ensures never_fewer { self.old.reads ≤ self.new.reads }
         // Once a read was made, no growth is asked for.
         ensures roomy { IfErr result (λ e. 0 < self.old.reads → e ≡ fault) }
     {
@@ -161,11 +182,16 @@ impl LineBlocks {
         ensures heard { OnOk result (F.has_failed feed.new ≡ F.has_failed feed.old) }
         ensures cut_short { IfErr result (λ e. ((e ≡ Fault.Memory) × (F.has_failed feed.new ≡ F.has_failed feed.old))
             ⊎ ((e ≡ fault) × IsCutShort (F.has_failed feed.new) (F.calls feed.new))) }
+        ensures never_fewer { self.old.reads ≤ self.new.reads }
+        ensures told { OnOk result (F.has_ended feed.new ≡ self.new.ended) }
+        ensures wanted { IfErr result (λ e. (e ≡ fault)
+            ⊎ ((F.calls feed.new ≡ self.new.reads) × (F.has_ended feed.new ≡ self.new.ended))) }
         ensures roomy { IfErr result (λ e. self.old.held.length < vec_len self.old.bytes → e ≡ fault) }
     {
         if self.reads == MOST_READS {
             return Err(fault);
         }
+        self.ended = false;
         let count = read_block(
             feed,
             &mut self.bytes,
@@ -174,6 +200,7 @@ impl LineBlocks {
             fault,
         )?;
         self.reads += 1;
+        self.ended = count == 0;
         Ok(count)
     }
 }

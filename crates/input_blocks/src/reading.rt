@@ -31,6 +31,9 @@ pub(crate) fn read_block<F: Feed>(
     ensures heard { OnOk result (F.has_failed feed.new ≡ F.has_failed feed.old) }
     ensures failed { IfErr result (λ e. ((e ≡ Fault.Memory) × (F.has_failed feed.new ≡ F.has_failed feed.old))
         ⊎ ((e ≡ fault) × (F.has_failed feed.new ≡ true))) }
+    // Where memory is wanted, no read was made.
+    ensures wanted { IfErr result (λ e. (e ≡ fault)
+        ⊎ ((F.calls feed.new ≡ F.calls feed.old) × (F.has_ended feed.new ≡ F.has_ended feed.old))) }
     // Where there is room, no growth is asked for.
     ensures roomy { IfErr result (λ e. filled < vec_len bytes.old → e ≡ fault) }
     ensures room { OnOk result (0 < vec_len bytes.new) }

@@ -15,7 +15,10 @@ pub fn obey<R: Env + Files + Print + Eprint + AllocGlobal + RandomSource + Threa
     alloc: Global,
     stdin: Stdin,
     terminals: Terminals,
-) -> Ending {
+) -> Ending
+where
+    R::File: Send,
+{
     let words = match words_of(rt, alloc) {
         Ok(words) => words,
         Err(ending) => return ending,
@@ -42,7 +45,10 @@ fn answer<R: Files + Print + Eprint + RandomSource + Threads + Wait + Sync>(
     stdin: Stdin,
     request: &Request<'_>,
     terminals: Terminals,
-) -> Result<Answer, Failure> {
+) -> Result<Answer, Failure>
+where
+    R::File: Send,
+{
     let inputs = open_inputs(rt, stdin, request, terminals)?;
     let mut trace = filled_input(rt, inputs.trace, inputs.lengths.trace);
     let mut companion = filled_input(rt, inputs.companion, inputs.lengths.companion);

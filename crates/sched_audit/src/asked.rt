@@ -24,7 +24,7 @@ const READS_OF_THREADS: u32 = 48;
 const WINDOW: usize = 1 << 16;
 
 /// Reads both inputs to their ends, judges them as a request asks, and writes the report in lines.
-pub fn run_request<R: RandomSource + Threads + Wait + Sync, T: Feed, C: Feed, S: Sink>(
+pub fn run_request<R: RandomSource + Threads + Wait + Sync, T: Feed, C: Feed + Send, S: Sink>(
     rt: &R,
     alloc: Global,
     request: &Request<'_>,

@@ -17,7 +17,7 @@ use stream_audit::{NoPast, StreamOutcome, judge_stream};
 
 /// Reads both inputs to their ends, a block at a time, judges them, and writes the report. A fault of the trace is told
 /// before one of the companion.
-pub fn run_in_blocks<R: RandomSource + Threads + Sync, T: Feed, C: Feed, S: Sink>(
+pub fn run_in_blocks<R: RandomSource + Threads + Sync, T: Feed, C: Feed + Send, S: Sink>(
     rt: &R,
     alloc: Global,
     trace: &mut T,
@@ -44,7 +44,7 @@ pub fn run_in_blocks<R: RandomSource + Threads + Sync, T: Feed, C: Feed, S: Sink
 }
 
 /// The same, but the report has a run's counts alone, and no line for each task.
-pub fn run_counted_in_blocks<R: RandomSource + Threads + Sync, T: Feed, C: Feed, S: Sink>(
+pub fn run_counted_in_blocks<R: RandomSource + Threads + Sync, T: Feed, C: Feed + Send, S: Sink>(
     rt: &R,
     alloc: Global,
     trace: &mut T,

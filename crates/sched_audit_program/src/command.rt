@@ -23,7 +23,10 @@ pub fn obey<R: Env + Files + Print + Eprint + AllocGlobal + RandomSource + Threa
     alloc: Global,
     stdin: Stdin,
     terminals: Terminals,
-) -> Ending {
+) -> Ending
+where
+    R::File: Send,
+{
     let words = match words_of(rt, alloc) {
         Ok(words) => words,
         Err(ending) => return ending,
@@ -44,7 +47,10 @@ fn answer<R: Files + Print + Eprint + RandomSource + Threads + Wait + Sync>(
     stdin: Stdin,
     request: &Request<'_>,
     terminals: Terminals,
-) -> Result<Answer, Failure> {
+) -> Result<Answer, Failure>
+where
+    R::File: Send,
+{
     let Inputs {
         trace,
         companion,
@@ -114,7 +120,10 @@ fn answer_alone<R: Files + Print + Eprint + RandomSource + Threads + Wait + Sync
     trace: Input<R::File>,
     companion: Input<R::File>,
     lengths: Lengths,
-) -> Result<Answer, Fault> {
+) -> Result<Answer, Fault>
+where
+    R::File: Send,
+{
     if request.json {
         return answer_json(rt, alloc, request, trace, companion, lengths);
     }

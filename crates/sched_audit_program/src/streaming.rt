@@ -26,7 +26,10 @@ pub(crate) fn answer_explained<R: Files + Print + Eprint + RandomSource + Thread
     trace: Input<R::File>,
     companion: Input<R::File>,
     lengths: Lengths,
-) -> Result<Answer, Failure> {
+) -> Result<Answer, Failure>
+where
+    R::File: Send,
+{
     let sizes = sizes_of(rt, &trace);
     let mut trace = kept_input(rt, alloc, trace, lengths.trace, Keeping::Last);
     let mut companion = kept_input(rt, alloc, companion, lengths.companion, Keeping::Last);
@@ -34,19 +37,19 @@ pub(crate) fn answer_explained<R: Files + Print + Eprint + RandomSource + Thread
 }
 
 /// How much of this trace and its companion is looked at at once: less than without an explanation, since a window more
-/// is kept for that, and of what can't be opened a second time three reads.
+/// is kept for that, and of what can't be opened a second time four reads.
 fn sizes_of<R: Threads, F>(rt: &R, trace: &Input<F>) -> Sizes {
     let sizes = block_sizes(rt);
     if trace.is_regular() {
         return sizes.by_reads(sizes.reads().saturating_sub(sizes.reads() / 10));
     }
-    // Three reads are three of what is audited together.
+    // Four reads are four of what is audited together.
     let together = sizes.block().saturating_mul(sizes.reads());
-    sizes.with_block((together / 3).max(1)).by_reads(1)
+    sizes.with_block((together / 4).max(1)).by_reads(1)
 }
 
 /// The same, of inputs of which nothing was read.
-fn explained_of<'a, R: Files + Print + RandomSource + Threads + Sync, F: Feed, C: Feed>(
+fn explained_of<'a, R: Files + Print + RandomSource + Threads + Sync, F: Feed, C: Feed + Send>(
     rt: &'a R,
     alloc: Global,
     request: &'a Request<'a>,

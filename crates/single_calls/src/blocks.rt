@@ -13,7 +13,10 @@ pub fn print_in_blocks<R: AllocGlobal + Files + Print + RandomSource + Threads +
     rt: &R,
     block: &str,
     words: &[String],
-) -> io::Result<ExitCode> {
+) -> io::Result<ExitCode>
+where
+    R::File: Send,
+{
     let sizes = words
         .first()
         .and_then(|window| sizes_of(block, window.as_str()));

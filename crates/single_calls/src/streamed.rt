@@ -14,7 +14,10 @@ pub fn print_streamed<R: AllocGlobal + Clock + Files + Print + RandomSource + Th
     trace: &str,
     companion: &str,
     sizes: Sizes,
-) -> io::Result<()> {
+) -> io::Result<()>
+where
+    R::File: Send,
+{
     let mut watch = Stopwatch::start(rt)?;
     let trace = &mut FeedOf::new(File::open(rt, trace)?);
     let companion = &mut FeedOf::new(File::open(rt, companion)?);

@@ -21,7 +21,10 @@ use std::{fs, io};
 pub fn print_times<R: AllocGlobal + Clock + Files + Print + RandomSource + Threads + Wait + Sync>(
     rt: &R,
     words: &[String],
-) -> io::Result<ExitCode> {
+) -> io::Result<ExitCode>
+where
+    R::File: Send,
+{
     let Some(rounds) = words.last().and_then(|word| word.parse::<u32>().ok()) else {
         return bad_words();
     };
@@ -93,7 +96,10 @@ fn time_streamed<R: AllocGlobal + Clock + Files + Print + RandomSource + Threads
     companion: &str,
     sizes: Sizes,
     rounds: u32,
-) -> io::Result<ExitCode> {
+) -> io::Result<ExitCode>
+where
+    R::File: Send,
+{
     for _ in 0..rounds {
         print_streamed(rt, trace, companion, sizes)?;
     }

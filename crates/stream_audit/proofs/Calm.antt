@@ -1,5 +1,5 @@
 -- What was found stays found, and what is known of what was handed on stays known as more comes in.
-use Rattle.std.proofs.Common.{◌≡◌, true, false, List, [], Option, Some, None, refl, sym, ap, subst, ◌∙◌}
+use Rattle.std.proofs.Common.{◌≡◌, Bool, true, false, List, [], Option, Some, None, refl, sym, ap, subst, ◌∙◌}
 use Rattle.std.specs.Prelude.{IsNone, IsSome, MatchOption}
 use Rattle.cfs_model.specs.Claimed.{Claimed}
 use Rattle.cfs_model.specs.Knobs.{KnobsView}
@@ -92,6 +92,11 @@ pub known_stays : (old new : Course) (handed : List Claimed) (judge : Option Jud
 known_stays old new handed judge same calm starts judged now =
     settled_stays (λ of handed j. IsKnownOf of handed j.progress) old.knobs new.knobs old.joined new.joined handed judge
     same starts (judged (calm now))
+
+-- where it isn't told otherwise nothing was found
+pub calm_told : (A : Type 0) (told : Bool) → (told ≡ false → A → ⊥) → A → told ≡ true
+calm_told A true found calm = refl
+calm_told A false found calm = absurd (found refl calm)
 
 -- of each that was handed on something else follows
 pub settled_as : (P Q : Beginning → List Claimed → Judge → Type 0) (knobs : KnobsView) (joined : Option JoinedEvents)

@@ -29,11 +29,12 @@ use Rattle.sched_record.specs.declared.joining.JoinFault.{JoinFault}
 use Rattle.ticket_book.specs.declared.verdict.Verdict.{Verdict}
 use Rattle.text_parts.specs.Lines.{lines_of}
 use Rattle.window_joining.specs.Joining.{edge_of}
-use Rattle.stream_audit.proofs.EventLines.{both_parts, rest_next}
+use Rattle.stream_audit.proofs.EventLines.{both_parts}
 use Rattle.stream_audit.specs.Companion.{IsPast}
 use Rattle.stream_audit.specs.Course.{AreAllEvents, AreEventsNext, CourseGoesOn, IsClosingOf, IsCourseOf, IsIdle}
 use Rattle.stream_audit.specs.Course.{IsReadyFor, IsWholeCourse}
-use Rattle.stream_audit.specs.Hearing.{AreBothDone, IsHeard, IsHeardBy, IsHearingOf, IsOutcome, IsReady, IsRefusalOf}
+use Rattle.stream_audit.specs.Hearing.{AreBothDone, IsHeard, IsHeardBy, IsHearingOf, IsOutcome, IsPending, IsReady}
+use Rattle.stream_audit.specs.Hearing.{IsRefusalOf}
 use Rattle.stream_audit.specs.declared.companion_input.CompanionInput.{CompanionInput}
 use Rattle.stream_audit.specs.declared.course.Closing.TheVariants as closings
 use Rattle.stream_audit.specs.declared.course.Course.{Course}
@@ -150,16 +151,18 @@ judged knobs bytes text events verdict are closing = (
 
 -- ---- more is read of the trace
 
-pub heard_on : (knobs : KnobsView) (gave left : Option (List ℕ)) (bytes more : List ℕ) (old new : EntryReader)
-    (course : Course) (handed : List Claimed) → lines_of (bytes ++ more) ≡ lines_of bytes ++ lines_of more
-    → ReadsEntries old new (lines_of more) → IsHeardBy knobs gave left bytes old course handed
-    → IsHeardBy knobs gave left (bytes ++ more) new course handed
-heard_on knobs gave left bytes more old new course handed lines read heard = record {
-  events = heard.events;
-  has_read = subst (λ (ls : List (List ℕ)). HasReadOut new ls heard.events) (sym lines)
-      (read (lines_of bytes) heard.events heard.has_read);
-  said = heard.said;
-  so_far = heard.so_far;
+unfoldable pub pending_on : (knobs : KnobsView) (gave left : Option (List ℕ)) (bytes more : List ℕ) (old new : EntryReader)
+    (course : Course) (handed : List Claimed) (events : List Entry)
+    → lines_of (bytes ++ more) ≡ lines_of bytes ++ lines_of more → ReadsEntries old new (lines_of more)
+    → IsPending knobs gave left bytes old course handed events
+    → IsPending knobs gave left (bytes ++ more) new course handed events
+pending_on knobs gave left bytes more old new course handed events lines read pending = record {
+  before = pending.before;
+  has_read = subst (λ (ls : List (List ℕ)). HasReadOut new ls (pending.before ++ events)) (sym lines)
+      (read (lines_of bytes) (pending.before ++ events) pending.has_read);
+  said = pending.said;
+  so_far = pending.so_far;
+  next = pending.next;
 }
 
 -- ---- the events that were read are taken out
@@ -180,16 +183,38 @@ course_there knobs gave left bytes reader course handed heard =
     subst (λ (k : KnobsView). IsCourseOf k gave left course heard.said heard.events handed) (sym heard.so_far.settings)
     heard.so_far
 
-pub ready_of : (knobs own : KnobsView) (gave left : Option (List ℕ)) (bytes : List ℕ) (reader : EntryReader)
-    (course : Course) (before : List Entry) (handed : List Claimed) (events : List Entry) → own ≡ knobs
-    → HasReadOut reader (lines_of bytes) (before ++ events)
-    → IsReadyFor own gave left course before handed events → IsReady knobs gave left bytes reader course handed events
-ready_of knobs own gave left bytes reader course before handed events same read ready = record {
-  before = before;
-  has_read = read;
+-- where they come next, the course is so by its own settings
+pub course_pending : (knobs : KnobsView) (gave left : Option (List ℕ)) (bytes : List ℕ) (reader : EntryReader)
+    (course : Course) (handed : List Claimed) (events : List Entry)
+    (pending : IsPending knobs gave left bytes reader course handed events)
+    → IsCourseOf course.knobs gave left course pending.said pending.before handed
+course_pending knobs gave left bytes reader course handed events pending =
+    subst (λ (k : KnobsView). IsCourseOf k gave left course pending.said pending.before handed)
+    (sym pending.so_far.settings) pending.so_far
+
+-- and those that were taken out come next
+pub pending_of : (knobs : KnobsView) (gave left : Option (List ℕ)) (bytes : List ℕ) (old new : EntryReader)
+    (course : Course) (handed : List Claimed) (events : List Entry)
+    (heard : IsHeardBy knobs gave left bytes old course handed)
+    → HasReadOut new (lines_of bytes) (heard.events ++ events)
+    → (0 < length events → AreEventsNext heard.events events)
+    → IsPending knobs gave left bytes new course handed events
+pending_of knobs gave left bytes old new course handed events heard read next =
+    record { before = heard.events; has_read = read; said = heard.said; so_far = heard.so_far; next = next }
+
+-- the first of them are joined, and the course is ready for the others
+pub ready_first : (knobs : KnobsView) (gave left rest : Option (List ℕ)) (bytes : List ℕ) (reader : EntryReader)
+    (course later : Course) (handed : List Claimed) (events : List Entry) (n : ℕ)
+    (pending : IsPending knobs gave left bytes reader course handed events)
+    → IsReadyFor course.knobs gave rest later (pending.before ++ take n events) handed (drop n events)
+    → IsReady knobs gave rest bytes reader later handed (drop n events)
+ready_first knobs gave left rest bytes reader course later handed events n pending ready = record {
+  before = pending.before ++ take n events;
+  has_read = subst (HasReadOut reader (lines_of bytes)) (sym (both_parts pending.before events n)) pending.has_read;
   ready = record {
     said = ready.said;
-    so_far = subst (λ (k : KnobsView). IsCourseOf k gave left course ready.said before handed) same ready.so_far;
+    so_far = subst (λ (k : KnobsView). IsCourseOf k gave rest later ready.said (pending.before ++ take n events) handed)
+        pending.so_far.settings ready.so_far;
     next = ready.next;
     past = ready.past;
   };
@@ -207,28 +232,6 @@ ready_there knobs gave left bytes reader course handed events ready = record {
   next = ready.ready.next;
   past = ready.ready.past;
 }
-
--- and it joined the first of them: it is ready for the others
-pub ready_rest : (knobs : KnobsView) (gave left : Option (List ℕ)) (bytes : List ℕ) (reader : EntryReader)
-    (course later : Course) (handed : List Claimed) (events : List Entry) (n : ℕ)
-    (ready : IsReady knobs gave left bytes reader course handed events) → 0 < length events
-    → IsCourseOf course.knobs gave left later ready.ready.said (ready.before ++ take n events) handed
-    → IsPast (edge_of (ready.before ++ events)) ready.ready.said later.companion
-    → IsReady knobs gave left bytes reader later handed (drop n events)
-ready_rest knobs gave left bytes reader course later handed events n ready some went past =
-    let same = both_parts ready.before events n in
-    record {
-      before = ready.before ++ take n events;
-      has_read = subst (HasReadOut reader (lines_of bytes)) (sym same) ready.has_read;
-      ready = record {
-        said = ready.ready.said;
-        so_far = subst (λ (k : KnobsView). IsCourseOf k gave left later ready.ready.said
-            (ready.before ++ take n events) handed) ready.ready.so_far.settings went;
-        next = λ more. rest_next ready.before events n (ready.ready.next some);
-        past = λ more. subst (λ (es : List Entry). IsPast (edge_of es) ready.ready.said later.companion) (sym same)
-            past;
-      };
-    }
 
 -- what was joined is handed on
 pub ready_on : (knobs : KnobsView) (gave left : Option (List ℕ)) (bytes : List ℕ) (reader : EntryReader)

@@ -1,5 +1,5 @@
 -- Two inputs stay under way as blocks are read and audited.
-use Rattle.std.proofs.Common.{◌≡◌, ℕ, Bool, true, false, not, List, [], Option, Some, None}
+use Rattle.std.proofs.Common.{◌≡◌, ◌<◌, ℕ, Bool, true, false, not, List, [], Option, Some, None, ap, arith, length}
 use Rattle.std.proofs.Common.{Result, Ok, Err, IfErr, IsErrAnd, refl, sym, subst, ◌∙◌}
 use Rattle.std.specs.Prelude.{IsNone, MatchOption}
 use Rattle.window_audit.specs.Audit.{Beginning}
@@ -9,6 +9,7 @@ use Rattle.std.specs.Io.KnownBytes.{IsAtEnd}
 use Rattle.std.specs.Prelude.{IfOk, OnOk}
 use Rattle.audit_input.specs.declared.fault.Fault.{Fault}
 use Rattle.cfs_model.specs.Knobs.{KnobsView}
+use Rattle.cfs_model.specs.declared.act.Entry.{Entry}
 use Rattle.companion_file.specs.Earlier.{summed}
 use Rattle.entry_reader.specs.Reader.{HasReadOut}
 use Rattle.entry_reader.specs.declared.reader.EntryReader.{EntryReader}
@@ -16,8 +17,9 @@ use Rattle.input_blocks.proofs.Beginning.{fresh}
 use Rattle.input_blocks.specs.Blocks.{IsFresh}
 use Rattle.input_blocks.specs.OfEntries.{ReadsEntries}
 use Rattle.text_parts.proofs.TextLines.{lines_of_nil}
+use Rattle.text_parts.specs.Lines.{lines_of}
 use Rattle.input_blocks.specs.declared.line_blocks.LineBlocks.{LineBlocks}
-use Rattle.stream_audit.specs.Course.{CourseGoesOn, IsCourseOf, IsSettledBy}
+use Rattle.stream_audit.specs.Course.{AreEventsNext, CourseGoesOn, IsCourseOf, IsSettledBy}
 use Rattle.stream_audit.specs.Companion.{IsFedBy}
 use Rattle.stream_audit.specs.Hearing.{IsHeardBy}
 use Rattle.stream_audit.specs.Judge.{IsAwaiting}
@@ -29,18 +31,23 @@ use Rattle.stream_audit.specs.declared.joined_events.JoinedEvents.{JoinedEvents}
 use Rattle.stream_audit.specs.declared.judge.Judge.{Judge}
 use Rattle.stream_audit.specs.declared.listener.Listener.{Listener}
 
+none_next : (events : List Entry) → events ≡ [] → 0 < length events → AreEventsNext [] events
+none_next events none some = let e = ap (λ (es : List Entry). length es) none in absurd (omega (arith, e, some))
+
 -- before the first read
 pub before_any : (knobs : KnobsView) (trace gave : Option (List ℕ)) (intake : Intake) → IsFresh intake.blocks
-    → HasReadOut intake.reader [] [] → IsCourseOf knobs gave gave intake.course (summed []) [] []
-    → IsComing knobs trace trace gave gave intake []
-before_any knobs trace gave intake none read course = record {
+    → HasReadOut intake.reader [] [] → intake.events.items ≡ []
+    → IsCourseOf knobs gave gave intake.course (summed []) [] [] → IsComing knobs trace trace gave gave intake []
+before_any knobs trace gave intake none read empty course = record {
   bytes = [];
   stands = fresh ReadsEntries trace intake.blocks none;
-  heard = record {
-    events = [];
-    has_read = subst (λ (ls : List (List ℕ)). HasReadOut intake.reader ls []) (sym lines_of_nil) read;
+  pending = record {
+    before = [];
+    has_read = subst (λ (es : List Entry). HasReadOut intake.reader (lines_of []) es) (sym empty)
+        (subst (λ (ls : List (List ℕ)). HasReadOut intake.reader ls []) (sym lines_of_nil) read);
     said = summed [];
     so_far = course;
+    next = none_next intake.events.items empty;
   };
 }
 
@@ -49,32 +56,24 @@ settled_none : (P : Beginning → List Claimed → Judge → Type 0) (knobs : Kn
 settled_none P knobs None judge none nobody = (refl, nobody)
 settled_none P knobs (Some j) judge none nobody = absurd (let e = none in cc)
 
-handed_none : (joined : Option JoinedEvents) → IsNone joined
-    → MatchOption joined (Unit {0}) (λ j. window_view j.window ≡ [])
-handed_none None none = tt
-handed_none (Some j) none = absurd (let e = none in cc)
-
 pub none_heard : (knobs : KnobsView) (trace gave : Option (List ℕ)) (listener : Listener)
     → IsComing knobs trace trace gave gave listener.intake [] → IsNone listener.intake.course.joined
     → IsNone listener.judge → IsUnderWay knobs trace trace gave gave listener true
 none_heard knobs trace gave listener coming none nobody = record {
   bytes = coming.bytes;
   stands = coming.stands;
-  heard = record {
-    handed = [];
-    by = coming.heard;
-    judged = λ calm. settled_none IsAwaiting listener.intake.course.knobs listener.intake.course.joined listener.judge
-        none nobody;
-    handed_on = handed_none listener.intake.course.joined none;
-  };
+  handed = [];
+  pending = coming.pending;
+  judged = λ calm. settled_none IsAwaiting listener.intake.course.knobs listener.intake.course.joined listener.judge none
+      nobody;
 }
 
 -- what is under way comes in
 pub coming_of : (knobs : KnobsView) (trace_gave trace_left gave left : Option (List ℕ)) (listener : Listener)
     (under : IsUnderWay knobs trace_gave trace_left gave left listener true)
-    → IsComing knobs trace_gave trace_left gave left listener.intake under.heard.handed
+    → IsComing knobs trace_gave trace_left gave left listener.intake under.handed
 coming_of knobs trace_gave trace_left gave left listener under =
-    record { bytes = under.bytes; stands = under.stands; heard = under.heard.by }
+    record { bytes = under.bytes; stands = under.stands; pending = under.pending }
 
 -- where the trace goes on
 pub still_under_way : (knobs : KnobsView) (trace_gave trace_left gave left : Option (List ℕ)) (listener : Listener)

@@ -1,6 +1,7 @@
 -- What is known of a recording whose texts both are read a block at a time (this project's profile).
 use Rattle.std.specs.Prelude.{◌≡◌, ◌⊎◌, ℕ, ◌^◌, ◌<◌, ◌≤◌, false, List, [], ◌++◌, All, Option, IsNone, MatchOption}
-use Rattle.std.specs.Prelude.{Ok, Err, length}
+use Rattle.std.specs.Prelude.{Ok, Err, IfOk, Result, drop, length, take}
+use Rattle.audit_input.specs.declared.fault.Fault.{Fault}
 use Rattle.cfs_model.specs.Claimed.{Claimed}
 use Rattle.cfs_model.specs.Knobs.{KnobsView}
 use Rattle.cfs_model.specs.Limits.{greatest_line}
@@ -111,6 +112,16 @@ pub record IsReadyFor (knobs : KnobsView) (gave left : Option (List ℕ)) (cours
     pub so_far : IsCourseOf knobs gave left course said before handed
     pub next : 0 < length events → AreEventsNext before events
     pub past : 0 < length events → IsPast (edge_of (before ++ events)) said course.companion
+
+-- a course reads its companion past these events, where they come next, and is ready for those behind the first, of
+-- which so many are joined
+pub record JoinsNext (left rest : Option (List ℕ)) (old new : Course) (events : List Entry) (result : Result ℕ Fault)
+    : Type 0
+  where
+    pub went : (gave : Option (List ℕ)) (said : Said) (before : List Entry) (handed : List Claimed)
+        → IsCourseOf old.knobs gave left old said before handed → (0 < length events → AreEventsNext before events)
+        → IfOk result (λ count. IsReadyFor old.knobs gave rest new (before ++ take count events) handed
+        (drop count events) × (IsCalm new → IsCalm old))
 
 -- these are all events of a trace
 pub record AreAllEvents (events : List Entry) : Type 0 where

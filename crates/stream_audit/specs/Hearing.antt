@@ -1,5 +1,6 @@
 -- What a recording of any length comes to (this project's profile).
-use Rattle.std.specs.Prelude.{◌≡◌, ℕ, ◌≤◌, Bool, true, false, List, ◌++◌, Option, Result, OnOk, IsErrOf, IsNone, []}
+use Rattle.std.specs.Prelude.{◌≡◌, ℕ, ◌<◌, ◌≤◌, Bool, true, false, List, ◌++◌, Option, Result, OnOk, IsErrOf}
+use Rattle.std.specs.Prelude.{IsNone, [], length}
 use Rattle.std.specs.Io.KnownBytes.{IsAtEnd}
 use Rattle.audit_input.specs.Known.{Agrees, IsCutShort, most_reads}
 use Rattle.audit_input.specs.Texts.{IsRecordOf, IsRefused, TellsCharges}
@@ -16,7 +17,8 @@ use Rattle.entry_reader.specs.declared.reader.EntryReader.{EntryReader}
 use Rattle.sched_record.specs.Record.{RecordView}
 use Rattle.ticket_book.specs.Verdict.{IsVerdict}
 use Rattle.text_parts.specs.Lines.{lines_of}
-use Rattle.stream_audit.specs.Course.{AreJudged, IsCourseOf, IsDone, IsHandedOn, IsReadyFor, IsWholeCourse}
+use Rattle.stream_audit.specs.Course.{AreEventsNext, AreJudged, IsCourseOf, IsDone, IsHandedOn, IsReadyFor}
+use Rattle.stream_audit.specs.Course.{IsWholeCourse}
 use Rattle.stream_audit.specs.declared.course.Course.{Course}
 use Rattle.stream_audit.specs.declared.hearing.Hearing.{Hearing}
 use Rattle.stream_audit.specs.declared.hearing.StreamOutcome.{StreamOutcome}
@@ -82,7 +84,17 @@ pub record IsHeardBy (knobs : KnobsView) (gave left : Option (List ℕ)) (bytes 
     pub said : Said
     pub so_far : IsCourseOf knobs gave left course said events handed
 
--- the same where all that was joined was handed on, and judged but for a window
+-- the same, but for these events, which were taken out and come next
+pub record IsPending (knobs : KnobsView) (gave left : Option (List ℕ)) (bytes : List ℕ) (reader : EntryReader)
+    (course : Course) (handed : List Claimed) (events : List Entry) : Type 0
+  where
+    pub before : List Entry
+    pub has_read : HasReadOut reader (lines_of bytes) (before ++ events)
+    pub said : Said
+    pub so_far : IsCourseOf knobs gave left course said before handed
+    pub next : 0 < length events → AreEventsNext before events
+
+-- all events that were taken out were joined, what was joined was handed on, and judged but for a window
 pub record IsHeard (knobs : KnobsView) (gave left : Option (List ℕ)) (bytes : List ℕ) (reader : EntryReader)
     (course : Course) (judge : Option Judge) : Type 0
   where

@@ -1,29 +1,32 @@
 -- What was heard so far of two inputs, of which what comes next is joined while the audit goes on (this project's
 -- profile).
-use Rattle.std.specs.Prelude.{◌≡◌, ◌≢◌, ℕ, Bool, true, false, not, List, [], Option, Err, IsNone, drop}
+use Rattle.std.specs.Prelude.{◌≡◌, ◌≢◌, ◌⊎◌, ◌≤◌, ℕ, Bool, true, false, not, List, [], Option, Result, Err, IsNone}
+use Rattle.std.specs.Prelude.{IfErr, OnOk, drop}
 use Rattle.std.specs.Io.KnownBytes.{IsAtEnd}
 use Rattle.audit_input.specs.declared.fault.Fault.{Fault}
-use Rattle.audit_input.specs.declared.fault.Fault.TheVariants.{Write}
+use Rattle.audit_input.specs.Known.{IsCutShort, most_reads}
+use Rattle.audit_input.specs.declared.fault.Fault.TheVariants.{Memory, ReadTrace, Write}
 use Rattle.cfs_model.specs.Claimed.{Claimed}
 use Rattle.cfs_model.specs.Knobs.{KnobsView}
 use Rattle.entry_reader.specs.Reader.{entries_of}
 use Rattle.input_blocks.specs.Blocks.{IsThen}
 use Rattle.input_blocks.specs.OfEntries.{ReadsEntries}
 use Rattle.input_blocks.specs.declared.line_blocks.LineBlocks.{LineBlocks}
-use Rattle.stream_audit.specs.Course.{IsCalm, StartStays}
-use Rattle.stream_audit.specs.Hearing.{Input, IsHeard, IsHeardBy, IsReady, ReadsBoth}
+use Rattle.stream_audit.specs.Course.{AreJudged, IsCalm, StartStays}
+use Rattle.stream_audit.specs.Hearing.{Input, IsPending, IsReady, ReadsBoth}
 use Rattle.stream_audit.specs.declared.course.Course.{Course}
 use Rattle.stream_audit.specs.declared.hearing.Hearing.{Hearing}
 use Rattle.stream_audit.specs.declared.intake.Intake.{Intake}
 use Rattle.stream_audit.specs.declared.listener.Listener.{Listener}
 
--- of a trace that gave bytes before it had these left, these were read, and of these all that was taken out was joined
+-- of a trace that gave bytes before it had these left, these were read, and of these all that was taken out was joined,
+-- but for the last events, which come next
 pub record IsComing (knobs : KnobsView) (trace_gave trace_left gave left : Option (List ℕ)) (intake : Intake)
     (handed : List Claimed) : Type 0
   where
     pub bytes : List ℕ
     pub stands : IsThen ReadsEntries trace_gave trace_left intake.blocks bytes true
-    pub heard : IsHeardBy knobs gave left bytes intake.reader intake.course handed
+    pub pending : IsPending knobs gave left bytes intake.reader intake.course handed intake.events.items
 
 -- more was read since a course was this, and of what was taken out some events were joined, and the others come next
 pub record HasCome (knobs : KnobsView) (trace_gave trace_left gave left : Option (List ℕ)) (old : Course)
@@ -36,14 +39,16 @@ pub record HasCome (knobs : KnobsView) (trace_gave trace_left gave left : Option
     pub starts : StartStays old.joined intake.course.joined
     pub same_knobs : intake.course.knobs ≡ old.knobs
 
--- of a trace that gave bytes before it had these left, these were read, and of these all that was taken out was joined
--- and handed on
+-- the same, where what was joined was handed on, and judged but for a window
 pub record IsUnderWay (knobs : KnobsView) (trace_gave trace_left gave left : Option (List ℕ)) (listener : Listener)
     (goes_on : Bool) : Type 0
   where
     pub bytes : List ℕ
     pub stands : IsThen ReadsEntries trace_gave trace_left listener.intake.blocks bytes goes_on
-    pub heard : IsHeard knobs gave left bytes listener.intake.reader listener.intake.course listener.judge
+    pub handed : List Claimed
+    pub pending : IsPending knobs gave left bytes listener.intake.reader listener.intake.course handed
+        listener.intake.events.items
+    pub judged : AreJudged listener.intake.course handed listener.judge
 
 -- nothing was heard yet, whatever the inputs have
 abbrev pub HasHeardNothing : KnobsView → Listener → Type 0
@@ -57,6 +62,22 @@ pub record IsReadBy (left : Option (List ℕ)) (calls : ℕ) (has_failed has_end
     pub heard : has_failed ≡ false
     pub ended : has_ended ≡ not goes_on
     pub at_end : goes_on ≡ false → IsAtEnd left
+
+-- an input was read as often as its blocks say, no read of it failed, and it has ended where they say so
+pub record IsLeft (calls : ℕ) (has_failed has_ended : Bool) (blocks : LineBlocks) : Type 0 where
+  pub counted : calls ≡ blocks.reads
+  pub heard : has_failed ≡ false
+  pub ended : has_ended ≡ blocks.ended
+
+-- how reads of a trace that answer this leave it: only where a read fails, or no more may be made, it isn't known
+pub record IsLeftBy (calls : ℕ) (has_failed has_ended : Bool) (blocks : LineBlocks) (result : Result Bool Fault)
+    : Type 0
+  where
+    pub bounded : calls ≤ most_reads
+    pub known : OnOk result (IsLeft calls has_failed has_ended blocks)
+    pub wanted : IfErr result (λ e. (e ≡ ReadTrace) ⊎ IsLeft calls has_failed has_ended blocks)
+    pub cut_short : IfErr result (λ e. ((e ≡ Memory) × (has_failed ≡ false))
+        ⊎ ((e ≡ ReadTrace) × IsCutShort has_failed calls))
 
 -- all events that were read were taken out, where no line is bad
 abbrev pub IsTakenOut : Intake → Type 0

@@ -1,6 +1,6 @@
 //! What is known of a recording, both of whose texts are read a block at a time.
 ghost use Rattle.std.specs.Prelude.{◌≡◌, ◌⊎◌, ◌≢◌, ◌++◌, ◌<◌, ◌≤◌, [], ℕ, Bool, List, Option, true, false, IfErr, IfOk};
-ghost use Rattle.std.specs.Prelude.{IsNone, IsSome, MatchOption, OnOk, length};
+ghost use Rattle.std.specs.Prelude.{IsNone, IsSome, MatchOption, OnErr, OnOk, drop, length, take};
 ghost use Rattle.audit_input.specs.Known.{IsCutShort, most_reads};
 ghost use Rattle.audit_input.specs.Texts.{TellsCharges};
 ghost use Rattle.cfs_model.specs.Claimed.{Claimed};
@@ -11,8 +11,8 @@ ghost use Rattle.companion_file.specs.Reader.{HasNoStart};
 ghost use Rattle.window_joining.specs.Joining.{edge_of};
 ghost use Rattle.stream_audit.specs.Companion.{IsFedBy, IsPast};
 ghost use Rattle.stream_audit.specs.Course.{AreEventsNext, AreJudged, CourseGoesOn, IsCalm, IsClosingOf, IsCourseOf};
-ghost use Rattle.stream_audit.specs.Course.{IsDone, IsHandedOn, IsIdle, IsReadyFor, IsWholeCourse, StartStays};
-ghost use Rattle.stream_audit.specs.Course.{WereJudged};
+ghost use Rattle.stream_audit.specs.Course.{IsDone, IsHandedOn, IsIdle, IsReadyFor, IsWholeCourse, JoinsNext};
+ghost use Rattle.stream_audit.specs.Course.{StartStays, WereJudged};
 ghost use Rattle.stream_audit.specs.Judge.{IsAllOf, IsAwaiting, begun};
 ghost use Rattle.stream_audit.specs.Progress.{IsKnownOf};
 ghost use Rattle.stream_audit.specs.declared.course.Course.{Course as CourseOf};
@@ -66,7 +66,7 @@ impl Course {
     }
 
     /// Reads the companion until nothing more can be said of the lines of these events, which come next.
-    pub fn read_past<C: Feed>(&mut self, companion: &mut C, events: &[Entry]) -> Result<(), Fault>
+    fn read_past<C: Feed>(&mut self, companion: &mut C, events: &[Entry]) -> Result<(), Fault>
         requires fed { IsFedBy (C.calls companion.old) (C.has_ended companion.old) (C.has_failed companion.old)
             self.old.companion }
         ensures went { (gave : Option (List ℕ)) (said : Said) (before : List Event) (handed : List Claimed)
@@ -74,6 +74,7 @@ impl Course {
             → (0 < length events.now → AreEventsNext before events.now)
             → OnOk result (IsReadyFor self.old.knobs gave (C.left companion.new) self.new before handed events.now
             × (IsCalm self.new → IsCalm self.old)) }
+        ensures some { OnErr result (0 < length events.now) }
         ensures joined { self.new.joined ≡ self.old.joined }
         ensures knobs { self.new.knobs ≡ self.old.knobs }
         ensures fed { OnOk result (IsFedBy (C.calls companion.new) (C.has_ended companion.new)
@@ -87,6 +88,61 @@ impl Course {
         }
         self.companion
             .read_past(companion, events[events.len() - 1].line)
+    }
+
+    /// Reads the companion past these events, which come next, and joins the first of them, so many at most. Says how
+    /// many those are.
+    pub fn join_next<C: Feed>(
+        &mut self,
+        alloc: Global,
+        companion: &mut C,
+        events: &[Entry],
+        most: usize,
+    ) -> Result<usize, Fault>
+        requires fed { IsFedBy (C.calls companion.old) (C.has_ended companion.old) (C.has_failed companion.old)
+            self.old.companion }
+        requires next { (gave : Option (List ℕ)) × (said : Said) × (before : List Event) × (handed : List Claimed)
+            × IsCourseOf self.old.knobs gave (C.left companion.old) self.old said before handed
+            × (0 < length events.now → AreEventsNext before events.now) }
+        ensures joins { JoinsNext (C.left companion.old) (C.left companion.new) self.old self.new events.now result }
+        ensures starts { OnOk result (StartStays self.old.joined self.new.joined) }
+        ensures knobs { self.new.knobs ≡ self.old.knobs }
+        ensures within { IfOk result (λ count. count ≤ length events.now) }
+        ensures some { OnErr result (0 < length events.now) }
+        ensures fed { OnOk result (IsFedBy (C.calls companion.new) (C.has_ended companion.new)
+            (C.has_failed companion.new) self.new.companion) }
+        ensures bounded { C.calls companion.new ≤ most_reads }
+        ensures cut_short { IfErr result (λ e. ((e ≡ Fault.Memory) × (C.has_failed companion.new ≡ false))
+            ⊎ ((e ≡ Fault.ReadCompanion) × IsCutShort (C.has_failed companion.new) (C.calls companion.new))) }
+    {
+        self.read_past(companion, events)?;
+        let count = self.join_first(alloc, events, most)?;
+        Ok(count)
+    }
+
+    /// Joins the first of the events that come next, so many at most, and says how many those are. The companion was
+    /// read past all of them.
+    fn join_first(&mut self, alloc: Global, events: &[Entry], most: usize) -> Result<usize, Memory>
+        requires { (gave : Option (List ℕ)) × (left : Option (List ℕ)) × (before : List Event)
+            × (handed : List Claimed) × IsReadyFor self.old.knobs gave left self.old before handed events.now }
+        ensures ready { (gave : Option (List ℕ)) (left : Option (List ℕ)) (before : List Event) (handed : List Claimed)
+            → IsReadyFor self.old.knobs gave left self.old before handed events.now
+            → IfOk result (λ count. IsReadyFor self.old.knobs gave left self.new (before ++ take count events.now)
+            handed (drop count events.now) × (IsCalm self.new → IsCalm self.old)) }
+        ensures starts { OnOk result (StartStays self.old.joined self.new.joined) }
+        ensures knobs { self.new.knobs ≡ self.old.knobs }
+        ensures within { IfOk result (λ count. count ≤ length events.now) }
+        ensures some { OnErr result (0 < length events.now) }
+        ensures fed { (calls : ℕ) (has_ended : Bool) (has_failed : Bool)
+            → IsFedBy calls has_ended has_failed self.old.companion
+            → IsFedBy calls has_ended has_failed self.new.companion }
+    {
+        let count = most.min(events.len());
+        if count == 0 {
+            return Ok(0);
+        }
+        self.go_on(alloc, &events[..count])?;
+        Ok(count)
     }
 
     /// Joins events that come next, of which there is one at least, and lets go what was said of their lines. The

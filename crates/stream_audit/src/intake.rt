@@ -1,15 +1,16 @@
 ghost use Rattle.std.specs.Io.KnownBytes.{IsAtEnd};
 ghost use Rattle.std.specs.Prelude.{◌≡◌, ◌≢◌, ◌⊎◌, ◌++◌, ◌<◌, ◌≤◌, ℕ, Bool, List, Option, [], false, true};
-ghost use Rattle.std.specs.Prelude.{IfErr, IfOk, IsNone, OnErr, OnOk, length, drop};
+ghost use Rattle.std.specs.Prelude.{IfErr, IfOk, IsNone, OnErr, OnOk, length, drop, take};
 ghost use Rattle.audit_input.specs.Known.{IsCutShort, most_reads};
 ghost use Rattle.cfs_model.specs.Claimed.{Claimed};
 ghost use Rattle.cfs_model.specs.Knobs.{KnobsView};
 ghost use Rattle.cfs_model.specs.declared.act.Entry.{Entry as Event};
 ghost use Rattle.entry_reader.specs.Reader.{HasReadOut, entries_of};
 ghost use Rattle.stream_audit.specs.Companion.{IsFedBy};
-ghost use Rattle.stream_audit.specs.Course.{AreEventsNext, AreJudged, IsCalm, IsHandedOn, IsReadyFor, StartStays};
-ghost use Rattle.stream_audit.specs.Hearing.{IsHeard, IsHeardBy, IsReady, input_of};
+ghost use Rattle.stream_audit.specs.Course.{AreEventsNext, AreJudged, IsCalm, IsHandedOn, StartStays};
+ghost use Rattle.stream_audit.specs.Hearing.{IsHeard, IsHeardBy, IsPending, IsReady, input_of};
 
+use crate::beside::{fault_beside, join_and_read};
 use crate::course::Course;
 use crate::{Judge, Past, Sizes};
 use audit_input::{Fault, Feed};
@@ -22,7 +23,7 @@ use std::thread::Threads;
 
 /// How many bytes of the companion a read asks for, at most. What it says ahead of the trace is moved each time that
 /// what was passed is let go.
-const COMPANION_BLOCK: u32 = 1 << 17;
+const COMPANION_BLOCK: u32 = 1 << 15;
 
 /// What comes in of two inputs that are read at once: the trace's events are joined with what the companion says.
 #[derive(Drop)]
@@ -30,7 +31,7 @@ pub(crate) struct Intake {
     /// Of the trace.
     blocks: LineBlocks,
     pub reader: EntryReader,
-    /// Those that were taken out last; the room for them is used again.
+    /// Those that were taken out last, and come next; the room for them is used again.
     events: Vec<Entry>,
     /// How many of them were joined.
     next: usize,
@@ -40,6 +41,7 @@ pub(crate) struct Intake {
     /// How many events are joined at once, at most.
     pub most: usize,
     pub ghost some: { 0 < most },
+    pub ghost begun: { 0 < length events.items → 0 < blocks.reads },
 }
 
 impl Intake {
@@ -67,15 +69,17 @@ impl Intake {
         }
     }
 
-    /// Makes the trace's next reads, or one where nothing waits to be audited beside that, takes out the events that
-    /// were read, where no line of the trace is bad, reads the companion past them, and joins the first of them. Says
+    /// Joins the first of the events that were taken out with what the companion says of them, and makes the trace's
+    /// next reads beside that, or behind it by the same thread; or one read, where nothing waits to be audited. Says
     /// whether the trace goes on.
-    pub fn come<T: Feed, C: Feed>(
+    pub fn come<R: Threads + Sync, T: Feed, C: Feed + Send>(
         &mut self,
+        rt: &R,
         alloc: Global,
         trace: &mut T,
         companion: &mut C,
         alone: bool,
+        beside: bool,
     ) -> Result<bool, Fault>
         requires coming { (knobs : KnobsView) × (trace_gave : Option (List ℕ)) × (gave : Option (List ℕ))
             × (handed : List Claimed)
@@ -92,7 +96,6 @@ impl Intake {
         ensures read { IfOk result (IsReadBy (T.left trace.new) (T.calls trace.new) (T.has_failed trace.new)
             (T.has_ended trace.new) self.new.blocks) }
         ensures read_on { OnOk result (self.old.blocks.reads < self.new.blocks.reads) }
-        ensures taken { OnOk result (IsTakenOut self.new) }
         ensures next { OnOk result (self.new.next ≤ length self.new.events.items) }
         ensures fed { OnOk result (IsFedBy (C.calls companion.new) (C.has_ended companion.new)
             (C.has_failed companion.new) self.new.course.companion) }
@@ -102,65 +105,68 @@ impl Intake {
             (C.has_ended companion.new))) }
     {
         let reads = if alone { 1 } else { self.reads };
-        let goes_on = self
-            .blocks
-            .next_some(trace, &mut self.reader, reads, Fault::ReadTrace)?;
-        if let Err(fault) = self.make_ready(companion) {
-            if goes_on {
-                return Err(fault_behind(&mut self.blocks, trace, fault));
+        let (joined, read) = join_and_read(
+            rt,
+            alloc,
+            &mut self.course,
+            companion,
+            &self.events,
+            self.most,
+            trace,
+            &mut self.blocks,
+            &mut self.reader,
+            reads,
+            beside,
+        );
+        match joined {
+            Ok(count) => {
+                self.next = count;
+                read
             }
-            return Err(fault);
+            Err(fault) => Err(fault_beside(&mut self.blocks, trace, fault, read)),
         }
-        self.join_first(alloc)?;
-        Ok(goes_on)
     }
 
-    /// Takes out the events that were read, where no line of the trace is bad, and reads the companion past them.
-    fn make_ready<C: Feed>(&mut self, companion: &mut C) -> Result<(), Fault>
+    /// Joins the first of the events that were taken out, behind which the trace has ended.
+    pub fn join_last<C: Feed>(&mut self, alloc: Global, companion: &mut C) -> Result<(), Fault>
         requires fed { IsFedBy (C.calls companion.old) (C.has_ended companion.old) (C.has_failed companion.old)
             self.old.course.companion }
+        requires pending { (knobs : KnobsView) × (gave : Option (List ℕ)) × (bytes : List ℕ) × (handed : List Claimed)
+            × IsPending knobs gave (C.left companion.old) bytes self.old.reader self.old.course handed
+            self.old.events.items }
         ensures ready { (knobs : KnobsView) (gave : Option (List ℕ)) (bytes : List ℕ) (handed : List Claimed)
-            → IsHeardBy knobs gave (C.left companion.old) bytes self.old.reader self.old.course handed
+            → IsPending knobs gave (C.left companion.old) bytes self.old.reader self.old.course handed
+            self.old.events.items
             → OnOk result (IsReady knobs gave (C.left companion.new) bytes self.new.reader self.new.course handed
-            self.new.events.items × (IsCalm self.new.course → IsCalm self.old.course)) }
-        ensures taken { OnOk result (IsTakenOut self.new) }
-        ensures joined { self.new.course.joined ≡ self.old.course.joined }
+            (drop self.new.next self.new.events.items) × (IsCalm self.new.course → IsCalm self.old.course)) }
+        ensures starts { OnOk result (StartStays self.old.course.joined self.new.course.joined) }
         ensures knobs { self.new.course.knobs ≡ self.old.course.knobs }
-        ensures blocks { self.new.blocks ≡ self.old.blocks }
+        ensures next { OnOk result (self.new.next ≤ length self.new.events.items) }
+        ensures reader { self.new.reader ≡ self.old.reader }
         ensures fed { OnOk result (IsFedBy (C.calls companion.new) (C.has_ended companion.new)
             (C.has_failed companion.new) self.new.course.companion) }
         ensures bounded { C.calls companion.new ≤ most_reads }
         ensures cut_short { IfErr result (λ e. ((e ≡ Fault.Memory) × (C.has_failed companion.new ≡ false))
             ⊎ ((e ≡ Fault.ReadCompanion) × IsCutShort (C.has_failed companion.new) (C.calls companion.new))) }
     {
-        take_good(&mut self.reader, &mut self.events);
-        self.course.read_past(companion, &self.events)
+        self.next = self
+            .course
+            .join_next(alloc, companion, &self.events, self.most)?;
+        Ok(())
     }
 
-    /// Joins the first of the events that were taken out, and so many at most.
-    fn join_first(&mut self, alloc: Global) -> Result<(), Memory>
-        requires { (knobs : KnobsView) × (gave : Option (List ℕ)) × (left : Option (List ℕ)) × (bytes : List ℕ)
-            × (handed : List Claimed)
-            × IsReady knobs gave left bytes self.old.reader self.old.course handed self.old.events.items }
-        ensures ready { (knobs : KnobsView) (gave : Option (List ℕ)) (left : Option (List ℕ)) (bytes : List ℕ)
-            (handed : List Claimed)
-            → IsReady knobs gave left bytes self.old.reader self.old.course handed self.old.events.items
-            → OnOk result (IsReady knobs gave left bytes self.new.reader self.new.course handed
-            (drop self.new.next self.new.events.items) × (IsCalm self.new.course → IsCalm self.old.course)) }
-        ensures starts { OnOk result (StartStays self.old.course.joined self.new.course.joined) }
-        ensures knobs { self.new.course.knobs ≡ self.old.course.knobs }
-        ensures next { OnOk result (self.new.next ≤ length self.new.events.items) }
-        ensures reader { self.new.reader ≡ self.old.reader }
+    /// Takes out the events that were read, where no line of the trace is bad. All that were taken out before were
+    /// joined.
+    pub fn take_next(&mut self)
+        requires { 0 < self.old.blocks.reads }
+        ensures pending { (knobs : KnobsView) (gave : Option (List ℕ)) (left : Option (List ℕ)) (bytes : List ℕ)
+            (handed : List Claimed) → IsHeardBy knobs gave left bytes self.old.reader self.old.course handed
+            → IsPending knobs gave left bytes self.new.reader self.new.course handed self.new.events.items }
+        ensures taken { IsTakenOut self.new }
+        ensures course { self.new.course ≡ self.old.course }
         ensures blocks { self.new.blocks ≡ self.old.blocks }
-        ensures fed { (calls : ℕ) (has_ended : Bool) (has_failed : Bool)
-            → IsFedBy calls has_ended has_failed self.old.course.companion
-            → IsFedBy calls has_ended has_failed self.new.course.companion }
     {
-        self.next = self.most.min(self.events.len());
-        if self.next == 0 {
-            return Ok(());
-        }
-        self.course.go_on(alloc, &self.events[..self.next])
+        take_good(&mut self.reader, &mut self.events);
     }
 
     /// Goes through the events that were taken out and not joined.
@@ -209,29 +215,5 @@ fn take_good(reader: &mut EntryReader, events: &mut Vec<Entry>)
         reader.take_out(events);
     } else {
         events.clear();
-    }
-}
-
-/// A fault of the companion is told only where the trace has none: what is left of the trace is read.
-fn fault_behind<T: Feed>(blocks: &mut LineBlocks, trace: &mut T, fault: Fault) -> Fault
-    requires ended { T.has_ended trace.old ≡ false }
-    requires counted { T.calls trace.old ≡ blocks.old.reads }
-    requires read { 0 < blocks.old.reads }
-    requires heard { T.has_failed trace.old ≡ false }
-    requires fault { (fault ≡ Fault.Memory) ⊎ (fault ≡ Fault.ReadCompanion) }
-    ensures memory { result ≡ Fault.Memory → (fault ≡ Fault.Memory) × (T.has_failed trace.new ≡ false) }
-    ensures trace { result ≡ Fault.ReadTrace → IsCutShort (T.has_failed trace.new) (T.calls trace.new) }
-    ensures companion { result ≡ Fault.ReadCompanion → (fault ≡ Fault.ReadCompanion)
-        × (T.has_ended trace.new ≡ true) × (T.has_failed trace.new ≡ false) }
-    ensures one { (result ≡ Fault.Memory) ⊎ (result ≡ Fault.ReadTrace) ⊎ (result ≡ Fault.ReadCompanion) }
-    ensures bounded { T.calls trace.new ≤ most_reads }
-{
-    match fault {
-        // Nothing is read behind it.
-        Fault::Memory => Fault::Memory,
-        _ => match blocks.drain(trace, Fault::ReadTrace) {
-            Ok(()) => fault,
-            Err(earlier) => earlier,
-        },
     }
 }

@@ -26,7 +26,7 @@ use std::thread::Threads;
 /// reads that are audited together and of those before them, and a row for each task at each processor where it ever
 /// stood; of the companion a block, the start, the `idle` lines, and what is said ahead of the trace. A fault of the
 /// trace is told before one of the companion. The past takes the last events up to the first fault, if it keeps events.
-pub fn judge_stream<R: RandomSource + Threads + Sync, T: Feed, C: Feed, P: Past>(
+pub fn judge_stream<R: RandomSource + Threads + Sync, T: Feed, C: Feed + Send, P: Past>(
     rt: &R,
     alloc: Global,
     trace: &mut T,
@@ -50,7 +50,7 @@ pub fn judge_stream<R: RandomSource + Threads + Sync, T: Feed, C: Feed, P: Past>
 }
 
 /// Hears two inputs to their ends, and tells what they came to.
-fn hear<R: Threads + Sync, T: Feed, C: Feed, P: Past>(
+fn hear<R: Threads + Sync, T: Feed, C: Feed + Send, P: Past>(
     rt: &R,
     alloc: Global,
     trace: &mut T,
@@ -71,6 +71,7 @@ fn hear<R: Threads + Sync, T: Feed, C: Feed, P: Past>(
         (C.has_ended companion.new)) result }
     ensures unwritten { IfErr result (λ fault. fault ≢ Fault.Write) }
 {
+    unread(companion);
     let mut goes_on = true;
     while goes_on {
         goes_on = listener.go_on(rt, alloc, trace, companion, past)?;
@@ -80,6 +81,13 @@ fn hear<R: Threads + Sync, T: Feed, C: Feed, P: Past>(
     let Intake { reader, course, .. } = &mut listener.intake;
     Ok(hearing_of(alloc, reader, course, judge)?)
 }
+
+/// Of an input of which no read was made none failed, and none gave the end.
+fn unread<F: Feed>(feed: &F)
+    requires { F.calls feed.now ≡ 0 }
+    ensures heard { F.has_failed feed.now ≡ false }
+    ensures goes_on { F.has_ended feed.now ≡ false }
+{}
 
 /// What both inputs came to, once they were read to their ends.
 fn hearing_of(

@@ -2,6 +2,7 @@
 //! the next block is read.
 #![tactic(auto)]
 
+mod beside;
 mod companion_input;
 mod course;
 mod ending;

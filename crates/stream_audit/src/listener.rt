@@ -1,11 +1,12 @@
 ghost use Rattle.std.specs.Prelude.{◌≡◌, ◌⊎◌, ◌<◌, ◌≤◌, ℕ, Bool, List, Option, false, true};
 ghost use Rattle.std.specs.Prelude.{IfErr, IfOk, OnOk, drop, length};
+ghost use Rattle.std.specs.Thread.{IsSync};
 ghost use Rattle.audit_input.specs.Known.{IsCutShort, most_reads};
 ghost use Rattle.cfs_model.specs.Claimed.{Claimed};
 ghost use Rattle.cfs_model.specs.Knobs.{KnobsView};
 ghost use Rattle.stream_audit.specs.Companion.{IsFedBy};
 ghost use Rattle.stream_audit.specs.Course.{AreJudged, IsCalm, IsIdle, WereJudged};
-ghost use Rattle.stream_audit.specs.Hearing.{IsHeard, IsReady, input_of};
+ghost use Rattle.stream_audit.specs.Hearing.{IsHeard, IsPending, IsReady, input_of};
 ghost use Rattle.stream_audit.specs.Listening.{EndsBoth, HasCome, HasHeardNothing, IsComing, IsReadBy, IsTakenOut};
 ghost use Rattle.stream_audit.specs.Listening.{IsUnderWay};
 ghost use Rattle.stream_audit.specs.declared.course.Course.{Course as CourseOf};
@@ -45,9 +46,9 @@ impl Listener {
         }
     }
 
-    /// Judges the window that waits, and makes the next one of what comes in, beside that or behind it. Says whether
-    /// the trace goes on.
-    pub fn go_on<R: Threads + Sync, T: Feed, C: Feed, P: Past>(
+    /// Judges the window that waits, makes the next one, and reads what comes in behind that. Says whether the trace
+    /// goes on.
+    pub fn go_on<R: Threads + Sync, T: Feed, C: Feed + Send, P: Past>(
         &mut self,
         rt: &R,
         alloc: Global,
@@ -90,6 +91,7 @@ impl Listener {
         let goes_on = came?;
         judged?;
         self.hand_on(rt, alloc, calm, past)?;
+        self.intake.take_next();
         Ok(goes_on)
     }
 
@@ -134,7 +136,7 @@ impl Listener {
         intake.go_through_rest(rt, alloc, judge, past)
     }
 
-    /// Judges the last window, and reads the companion to its end.
+    /// Judges the last two windows, and reads the companion to its end. The trace has ended.
     pub fn read_rest<R: Threads + Sync, C: Feed, P: Past>(
         &mut self,
         rt: &R,
@@ -142,14 +144,14 @@ impl Listener {
         companion: &mut C,
         past: &mut P,
     ) -> Result<(), Fault>
-        requires heard { (knobs : KnobsView) × (gave : Option (List ℕ)) × (bytes : List ℕ)
-            × IsHeard knobs gave (C.left companion.old) bytes self.old.intake.reader self.old.intake.course
-            self.old.judge }
+        requires pending { (knobs : KnobsView) × (gave : Option (List ℕ)) × (bytes : List ℕ) × (handed : List Claimed)
+            × IsPending knobs gave (C.left companion.old) bytes self.old.intake.reader self.old.intake.course handed
+            self.old.intake.events.items × AreJudged self.old.intake.course handed self.old.judge }
         requires fed { IsFedBy (C.calls companion.old) (C.has_ended companion.old) (C.has_failed companion.old)
             self.old.intake.course.companion }
-        ensures heard { (knobs : KnobsView) (gave : Option (List ℕ)) (bytes : List ℕ)
-            → IsHeard knobs gave (C.left companion.old) bytes self.old.intake.reader self.old.intake.course
-            self.old.judge
+        ensures heard { (knobs : KnobsView) (gave : Option (List ℕ)) (bytes : List ℕ) (handed : List Claimed)
+            → IsPending knobs gave (C.left companion.old) bytes self.old.intake.reader self.old.intake.course handed
+            self.old.intake.events.items → AreJudged self.old.intake.course handed self.old.judge
             → OnOk result (IsHeard knobs gave (C.left companion.new) bytes self.new.intake.reader
             self.new.intake.course self.new.judge) }
         ensures reader { self.new.intake.reader ≡ self.old.intake.reader }
@@ -161,16 +163,49 @@ impl Listener {
         ensures cut_short { IfErr result (λ e. ((e ≡ Fault.Memory) × (C.has_failed companion.new ≡ false))
             ⊎ ((e ≡ Fault.ReadCompanion) × IsCutShort (C.has_failed companion.new) (C.calls companion.new))) }
     {
+        self.join_last(rt, alloc, companion, past)?;
         let Listener { intake, judge, .. } = self;
         let course = &mut intake.course;
         course.judge(rt, alloc, judge, past)?;
         course.read_rest(companion)
     }
+
+    /// Judges the window that waits, and joins and hands on the last events.
+    fn join_last<R: Threads + Sync, C: Feed, P: Past>(
+        &mut self,
+        rt: &R,
+        alloc: Global,
+        companion: &mut C,
+        past: &mut P,
+    ) -> Result<(), Fault>
+        requires pending { (knobs : KnobsView) × (gave : Option (List ℕ)) × (bytes : List ℕ) × (handed : List Claimed)
+            × IsPending knobs gave (C.left companion.old) bytes self.old.intake.reader self.old.intake.course handed
+            self.old.intake.events.items × AreJudged self.old.intake.course handed self.old.judge }
+        requires fed { IsFedBy (C.calls companion.old) (C.has_ended companion.old) (C.has_failed companion.old)
+            self.old.intake.course.companion }
+        ensures heard { (knobs : KnobsView) (gave : Option (List ℕ)) (bytes : List ℕ) (handed : List Claimed)
+            → IsPending knobs gave (C.left companion.old) bytes self.old.intake.reader self.old.intake.course handed
+            self.old.intake.events.items → AreJudged self.old.intake.course handed self.old.judge
+            → OnOk result (IsHeard knobs gave (C.left companion.new) bytes self.new.intake.reader
+            self.new.intake.course self.new.judge) }
+        ensures reader { self.new.intake.reader ≡ self.old.intake.reader }
+        ensures fed { OnOk result (IsFedBy (C.calls companion.new) (C.has_ended companion.new)
+            (C.has_failed companion.new) self.new.intake.course.companion) }
+        ensures bounded { C.calls companion.new ≤ most_reads }
+        ensures cut_short { IfErr result (λ e. ((e ≡ Fault.Memory) × (C.has_failed companion.new ≡ false))
+            ⊎ ((e ≡ Fault.ReadCompanion) × IsCutShort (C.has_failed companion.new) (C.calls companion.new))) }
+    {
+        let calm = self.intake.course.is_calm();
+        judge_waiting(rt, alloc, calm, &mut self.judge)?;
+        self.intake.join_last(alloc, companion)?;
+        self.hand_on(rt, alloc, calm, past)?;
+        Ok(())
+    }
 }
 
-/// Judges the window that waits, and makes the next one beside that, or behind it. Beside it the judge has a thread of
-/// its own, so no input goes to another thread.
-fn judge_and_come<R: Threads + Sync, T: Feed, C: Feed>(
+/// Judges the window that waits, makes the next one, and makes the reads for the one behind that: each beside the others
+/// by a thread of its own, or one after the other. The companion goes to another thread for that, and the trace stays.
+fn judge_and_come<R: Threads + Sync, T: Feed, C: Feed + Send>(
     rt: &R,
     alloc: Global,
     calm: bool,
@@ -199,7 +234,6 @@ fn judge_and_come<R: Threads + Sync, T: Feed, C: Feed>(
     ensures read { IfOk result.1 (IsReadBy (T.left trace.new) (T.calls trace.new) (T.has_failed trace.new)
         (T.has_ended trace.new) intake.new.blocks) }
     ensures read_on { OnOk result.1 (intake.old.blocks.reads < intake.new.blocks.reads) }
-    ensures taken { OnOk result.1 (IsTakenOut intake.new) }
     ensures next { OnOk result.1 (intake.new.next ≤ length intake.new.events.items) }
     ensures fed { OnOk result.1 (IsFedBy (C.calls companion.new) (C.has_ended companion.new)
         (C.has_failed companion.new) intake.new.course.companion) }
@@ -211,7 +245,8 @@ fn judge_and_come<R: Threads + Sync, T: Feed, C: Feed>(
     let alone = judge.is_none();
     if alone || !ahead {
         let judged = judge_waiting(rt, alloc, calm, judge);
-        return (judged, intake.come(alloc, trace, companion, alone));
+        let came = intake.come(rt, alloc, trace, companion, alone, false);
+        return (judged, came);
     }
     let first = first_of_threads(rt);
     let both = join_mut(
@@ -222,7 +257,33 @@ fn judge_and_come<R: Threads + Sync, T: Feed, C: Feed>(
             ensures judged { (course : CourseOf) (handed : List Claimed) → (IsCalm course → calm ≡ true)
                 → AreJudged course handed judge.entry.now → OnOk result (WereJudged course handed judge.exit.now) }
         { judge_waiting(rt, alloc, calm, judge) },
-        &mut || intake.come(alloc, trace, companion, alone),
+        &mut ||
+            requires sync { IsSync R.row }
+            requires coming { (knobs : KnobsView) × (trace_gave : Option (List ℕ)) × (gave : Option (List ℕ))
+                × (handed : List Claimed)
+                × IsComing knobs trace_gave (T.left trace.now) gave (C.left companion.now) intake.now handed }
+            requires read { IsReadBy (T.left trace.now) (T.calls trace.now) (T.has_failed trace.now)
+                (T.has_ended trace.now) intake.now.blocks true }
+            requires fed { IsFedBy (C.calls companion.now) (C.has_ended companion.now) (C.has_failed companion.now)
+                intake.now.course.companion }
+            ensures came { (knobs : KnobsView) (trace_gave : Option (List ℕ)) (gave : Option (List ℕ))
+                (handed : List Claimed)
+                → IsComing knobs trace_gave (T.left trace.entry.now) gave (C.left companion.entry.now) intake.entry.now
+                handed
+                → IfOk result (HasCome knobs trace_gave (T.left trace.exit.now) gave (C.left companion.exit.now)
+                intake.entry.now.course intake.exit.now handed) }
+            ensures read { IfOk result (IsReadBy (T.left trace.exit.now) (T.calls trace.exit.now)
+                (T.has_failed trace.exit.now) (T.has_ended trace.exit.now) intake.exit.now.blocks) }
+            ensures read_on { OnOk result (intake.entry.now.blocks.reads < intake.exit.now.blocks.reads) }
+            ensures next { OnOk result (intake.exit.now.next ≤ length intake.exit.now.events.items) }
+            ensures fed { OnOk result (IsFedBy (C.calls companion.exit.now) (C.has_ended companion.exit.now)
+                (C.has_failed companion.exit.now) intake.exit.now.course.companion) }
+            ensures reads { IfErr result (EndsBoth
+                (input_of (T.left trace.exit.now) (T.calls trace.exit.now) (T.has_failed trace.exit.now)
+                (T.has_ended trace.exit.now))
+                (input_of (C.left companion.exit.now) (C.calls companion.exit.now) (C.has_failed companion.exit.now)
+                (C.has_ended companion.exit.now))) }
+        { intake.come(rt, alloc, trace, companion, alone, true) },
     );
     if let Some(first) = first {
         first.join(rt);

@@ -16,7 +16,7 @@ use Rattle.stream_audit.proofs.judging.hear.Goals as goal
 pub loop-goes_on-init : goal.loop-goes_on-init
 loop-goes_on-init g c =
     let trace = g.met.T.Feed.untouched c.args.trace.now c.requires.trace in
-    let companion = g.met.C.Feed.untouched c.args.companion.now c.requires.companion in
+    let companion = c.unread.ensures in
     let fed = c.requires.unfed in
     record {
       read = record {
@@ -27,8 +27,8 @@ loop-goes_on-init g c =
       };
       fed = record {
         counted = c.requires.companion ∙ fed.counted;
-        ended = companion.1 ∙ fed.ended;
-        heard = companion.0;
+        ended = companion.goes_on ∙ fed.ended;
+        heard = companion.heard;
       };
       taken = λ e. cc;
       under_way = λ knobs nothing. nothing (g.T.Feed.left c.args.trace.now) (g.C.Feed.left c.args.companion.now);
@@ -72,11 +72,11 @@ returns-in_err-goes_on-clause-unwritten g c =
     unwritten_by c.from_residual.result c.in_err-goes_on.field-0.0 c.from_residual.ensures.1
     c.in_err-goes_on.ensures.reads.1
 
-pub read_rest-requires-clause-heard : goal.read_rest-requires-clause-heard
-read_rest-requires-clause-heard g c κs within =
+pub read_rest-requires-clause-pending : goal.read_rest-requires-clause-pending
+read_rest-requires-clause-pending g c κs within =
     let knobs = c.requires.nothing.0 in
     let under = c.loop-goes_on.invariant.under_way knobs c.requires.nothing.1 in
-    (knobs, g.C.Feed.left c.args.companion.now, under.bytes, under.heard)
+    (knobs, g.C.Feed.left c.args.companion.now, under.bytes, under.handed, under.pending, under.judged)
 
 pub read_rest-requires-clause-fed : goal.read_rest-requires-clause-fed
 read_rest-requires-clause-fed g c κs within = c.loop-goes_on.invariant.fed
@@ -107,7 +107,7 @@ hearing_of-requires g c =
     let listener = c.read_rest.new.self in
     let reader = listener.intake.reader in
     let course = listener.intake.course in
-    let heard = rest.heard knobs gave under.bytes under.heard in (
+    let heard = rest.heard knobs gave under.bytes under.handed under.pending under.judged in (
       under.bytes,
       text_of knobs gave _ reader course listener.judge under.bytes heard rest.done,
       subst (λ (j : Option Judge). AreBothDone reader course j under.bytes
@@ -126,7 +126,7 @@ returns-clause-outcome g c = λ knobs nothing.
     let listener = c.read_rest.new.self in
     let reader = listener.intake.reader in
     let course = listener.intake.course in
-    let heard = rest.heard knobs gave under.bytes under.heard in
+    let heard = rest.heard knobs gave under.bytes under.handed under.pending under.judged in
     hearing_is knobs gave _ reader course listener.judge under.bytes heard rest.done _ _
     (all_that_came ReadsEntries _ _ c.loop-goes_on.listener.intake.blocks under.bytes c.loop-goes_on.goes_on
     c.loop-goes_on-test.false under.stands)
@@ -148,7 +148,7 @@ returns-clause-reads g c =
     let listener = c.read_rest.new.self in
     let reader = listener.intake.reader in
     let course = listener.intake.course in
-    let heard = rest.heard knobs gave under.bytes under.heard in
+    let heard = rest.heard knobs gave under.bytes under.handed under.pending under.judged in
     both_read _ _ _
     (read_to_end _ _ read.ended c.loop-goes_on-test.false, read_to_end _ _ rest.fed.ended rest.done) (
       read.at_end c.loop-goes_on-test.false,

@@ -17,6 +17,7 @@ loop-count-preserved g c =
       heard = read.heard ∙ before.heard;
       none = ap (λ (h : Held). h.length) read.held ∙ before.none;
       some = (let one = read.one_read in omega (arith, one));
+      never_fewer = (let one = read.one_read in let earlier = before.never_fewer in omega (arith, one, earlier));
       came = λ gave done consumed.
           let so_far = before.came gave done consumed in (
             _,

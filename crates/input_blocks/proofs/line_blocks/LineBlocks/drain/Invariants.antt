@@ -1,5 +1,5 @@
 -- The last read gave so many bytes; what was consumed so far lies behind what was before the call.
-use Rattle.std.proofs.Common.{◌≡◌, ◌==◌, ◌-◌, ◌<◌, ◌++◌, List, ℕ, Option}
+use Rattle.std.proofs.Common.{◌≡◌, ◌==◌, ◌-◌, ◌<◌, ◌≤◌, ◌++◌, List, ℕ, Option}
 use Rattle.std.specs.Io.KnownBytes.{Consumes, IsAtEnd}
 use Rattle.audit_input.specs.Known.{most_reads}
 use Rattle.input_blocks.proofs.line_blocks.LineBlocks.drain.Given as goal
@@ -14,6 +14,7 @@ invariant-loop-count g l =
       heard : feed.has_failed l.feed ≡ feed.has_failed l.initial.feed;
       none : l.self.held.length ≡ 0;
       some : 0 < l.self.reads;
+      never_fewer : l.fn.self.reads ≤ l.self.reads;
       came : (gave : Option (List ℕ)) (done : List ℕ) → Consumes gave (feed.left l.initial.feed) done
           → (more : List ℕ) × Consumes gave (feed.left l.feed) (done ++ more);
     }

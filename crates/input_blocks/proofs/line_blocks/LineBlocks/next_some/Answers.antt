@@ -10,6 +10,7 @@ loop-goes_on-preserved g c =
     record {
       counted = next.counted;
       ended = next.ended;
+      told = next.told;
       heard = next.heard ∙ before.heard;
       read_on = (let earlier = before.read_on in let one = next.one_read in omega (arith, earlier, one));
       so_far = (let earlier = before.so_far in let one = next.one_read in let left = c.loop-goes_on-test.true in

@@ -11,6 +11,7 @@ invariant-loop-goes_on g l =
     record {
       counted : feed.calls l.feed ≡ l.self.reads;
       ended : feed.has_ended l.feed ≡ not l.goes_on;
+      told : feed.has_ended l.feed ≡ l.self.ended;
       heard : feed.has_failed l.feed ≡ feed.has_failed l.fn.feed;
       read_on : l.fn.self.reads < l.self.reads;
       so_far : l.self.reads + l.left ≡ l.fn.self.reads + 1 + l.fn.most;

@@ -1,52 +1,49 @@
-use Rattle.std.proofs.Common.{◌++◌, ◌∙◌, Option, sym, subst}
-use Rattle.input_blocks.specs.Blocks.{IsThen}
-use Rattle.input_blocks.specs.OfEntries.{ReadsEntries}
-use Rattle.input_blocks.specs.declared.line_blocks.LineBlocks.{LineBlocks}
-use Rattle.stream_audit.specs.Course.{StartStays}
-use Rattle.stream_audit.specs.declared.joined_events.JoinedEvents.{JoinedEvents}
-use Rattle.stream_audit.proofs.Heard.{heard_on}
+use Rattle.std.proofs.Common.{◌≡◌, ◌<◌, ◌++◌, List, arith, drop, length, sym, subst, take}
+use Rattle.cfs_model.specs.declared.act.Entry.{Entry}
+use Rattle.stream_audit.specs.Course.{AreEventsNext, IsReadyFor}
+use Rattle.stream_audit.proofs.Heard.{course_pending, pending_on, ready_first}
+use Rattle.stream_audit.proofs.UnderWay.{if_ok, of_ok, on_ok_of}
 use Rattle.stream_audit.proofs.intake.Intake.come.Goals as goal
 
-pub join_first-requires : goal.join_first-requires
-join_first-requires g c =
-    let knobs = c.requires.coming.0 in
-    let gave = c.requires.coming.2 in
-    let handed = c.requires.coming.3 in
-    let coming = c.requires.coming.4 in
+pub join_and_read-joined-requires-clause-next : goal.join_and_read-joined-requires-clause-next
+join_and_read-joined-requires-clause-next g c κs within =
     let self = c.args.self.now in
-    let comes = c.in_ok-goes_on.ensures.passed c.requires.coming.1 coming.bytes coming.stands in
-    let heard = heard_on knobs gave (g.C.Feed.left c.args.companion.now) coming.bytes comes.more self.reader
-    c.next_some.new.reader self.course handed comes.lines comes.read coming.heard in (
-      knobs,
-      gave,
-      g.C.Feed.left c.make_ready.new.companion,
-      coming.bytes ++ comes.more,
-      handed,
-      (c.in_default.ensures.ready knobs gave (coming.bytes ++ comes.more) handed heard).0,
+    let p = c.requires.coming in
+    let pending = p.4.pending in (
+      p.2,
+      pending.said,
+      pending.before,
+      p.3,
+      course_pending p.0 p.2 _ p.4.bytes self.reader self.course p.3 self.events.items pending,
+      subst (λ (es : List Entry). 0 < length es → AreEventsNext pending.before es) (sym c.deref.ensures.value)
+          pending.next,
     )
 
-pub returns-clause-came : goal.returns-clause-came
-returns-clause-came g c = λ knobs trace_gave gave handed coming.
+pub returns-in-Ok-clause-came : goal.returns-in-Ok-clause-came
+unfolding pending_on
+returns-in-Ok-clause-came g c = λ knobs trace_gave gave handed coming.
     let self = c.args.self.now in
-    let comes = c.in_ok-goes_on.ensures.passed trace_gave coming.bytes coming.stands in
-    let heard = heard_on knobs gave (g.C.Feed.left c.args.companion.now) coming.bytes comes.more self.reader
-    c.next_some.new.reader self.course handed comes.lines comes.read coming.heard in
-    let made = c.in_default.ensures in
-    let ready = made.ready knobs gave (coming.bytes ++ comes.more) handed heard in
-    let joined = c.in_ok-join_first.ensures in
-    let on = joined.ready knobs gave (g.C.Feed.left c.make_ready.new.companion) (coming.bytes ++ comes.more) handed
-    ready.0 in
-    let last = c.join_first.new.self in
-    record {
+    let events = self.events.items in
+    let n = c.in-Ok.count in
+    let both = c.join_and_read-joined in
+    let later = both.new.course in
+    let left = g.C.Feed.left both.new.companion in
+    let pending = coming.pending in
+    let went = of_ok _ _ n c.in-Ok.is
+    (both.ensures.joins.went gave pending.said pending.before handed
+    (course_pending knobs gave _ coming.bytes self.reader self.course handed events pending)
+    (subst (λ (es : List Entry). 0 < length es → AreEventsNext pending.before es) (sym c.deref.ensures.value)
+    pending.next)) in
+    if_ok _ _ both.result.1
+    (λ goes_on comes. record {
       bytes = coming.bytes ++ comes.more;
-      stands = subst (λ (b : LineBlocks). IsThen ReadsEntries trace_gave
-          (g.T.Feed.left c.next_some.new.feed) b (coming.bytes ++ comes.more) c.in_ok-goes_on.goes_on)
-          (sym (joined.blocks ∙ made.blocks)) comes.next;
-      ready = on.0;
-      calm = λ now. ready.1 (on.1 now);
-      starts = subst (λ (o : Option JoinedEvents). StartStays o last.course.joined) made.joined joined.starts;
-      same_knobs = joined.knobs ∙ made.knobs;
-    }
-
-pub returns-clause-fed : goal.returns-clause-fed
-returns-clause-fed g c = c.in_ok-join_first.ensures.fed _ _ _ c.in_default.ensures.fed
+      stands = comes.next;
+      ready = ready_first knobs gave _ left (coming.bytes ++ comes.more) both.new.reader self.course later handed events n
+          (pending_on knobs gave _ coming.bytes comes.more self.reader both.new.reader self.course handed events
+          comes.lines comes.read pending)
+          (subst (λ (es : List Entry). IsReadyFor self.course.knobs gave left later (pending.before ++ take n es) handed
+          (drop n es)) c.deref.ensures.value went.0);
+      calm = went.1;
+      starts = on_ok_of _ _ n c.in-Ok.is both.ensures.starts;
+      same_knobs = both.ensures.knobs;
+    }) (both.ensures.passed trace_gave coming.bytes coming.stands)

@@ -1,20 +1,18 @@
-use Rattle.std.proofs.Common.{◌≡◌, Bool, true, false, refl, sym, subst}
+use Rattle.std.proofs.Common.{◌∙◌, sym, subst}
 use Rattle.input_blocks.specs.Blocks.{IsThen}
 use Rattle.input_blocks.specs.OfEntries.{ReadsEntries}
 use Rattle.input_blocks.specs.declared.line_blocks.LineBlocks.{LineBlocks}
-use Rattle.stream_audit.proofs.Calm.{known_stays}
+use Rattle.stream_audit.specs.Companion.{IsFedBy}
+use Rattle.stream_audit.specs.Course.{AreJudged}
+use Rattle.stream_audit.specs.declared.course.Course.{Course}
+use Rattle.stream_audit.proofs.Calm.{calm_told, known_stays}
 use Rattle.stream_audit.proofs.UnderWay.{coming_of, of_err, of_ok, on_ok_of, told_as}
 use Rattle.stream_audit.proofs.listener.Listener.go_on.Goals as goal
-
--- where it isn't told otherwise nothing was found
-calm_told : (A : Type 0) (told : Bool) → (told ≡ false → A → ⊥) → A → told ≡ true
-calm_told A true found calm = refl
-calm_told A false found calm = absurd (found refl calm)
 
 pub judge_and_come-judged-requires-clause-judged : goal.judge_and_come-judged-requires-clause-judged
 judge_and_come-judged-requires-clause-judged g c κs within = λ told.
     let under = c.requires.under_way.3 in
-    (c.args.self.now.intake.course, under.heard.handed, c.is_calm-calm.ensures.calm told, under.heard.judged)
+    (c.args.self.now.intake.course, under.handed, c.is_calm-calm.ensures.calm told, under.judged)
 
 pub judge_and_come-judged-requires-clause-coming : goal.judge_and_come-judged-requires-clause-coming
 judge_and_come-judged-requires-clause-coming g c κs within =
@@ -22,7 +20,7 @@ judge_and_come-judged-requires-clause-coming g c κs within =
       under.0,
       under.1,
       under.2,
-      under.3.heard.handed,
+      under.3.handed,
       coming_of under.0 under.1 _ under.2 _ c.args.self.now under.3,
     )
 
@@ -35,7 +33,7 @@ pub hand_on-requires-clause-calm : goal.hand_on-requires-clause-calm
 hand_on-requires-clause-calm g c κs within = λ off now.
     let under = c.requires.under_way in
     let came = of_ok _ _ _ c.in_ok-goes_on.was
-    (c.judge_and_come-judged.ensures.came under.0 under.1 under.2 under.3.heard.handed
+    (c.judge_and_come-judged.ensures.came under.0 under.1 under.2 under.3.handed
     (coming_of under.0 under.1 _ under.2 _ c.args.self.now under.3)) in
     c.is_calm-calm.ensures.found off (came.calm now)
 
@@ -47,14 +45,14 @@ pub hand_on-requires-clause-ready : goal.hand_on-requires-clause-ready
 hand_on-requires-clause-ready g c κs within =
     let under = c.requires.under_way in
     let old = c.args.self.now.intake.course in
-    let handed = under.3.heard.handed in
+    let handed = under.3.handed in
     let both = c.judge_and_come-judged in
     let came = of_ok _ _ _ c.in_ok-goes_on.was
     (both.ensures.came under.0 under.1 under.2 handed
     (coming_of under.0 under.1 _ under.2 _ c.args.self.now under.3)) in
     let known = on_ok_of _ _ _ c.in_ok-judged.was
     (both.ensures.judged old handed (calm_told _ c.is_calm-calm.result c.is_calm-calm.ensures.found)
-    under.3.heard.judged) in (
+    under.3.judged) in (
       under.0,
       under.2,
       _,
@@ -67,22 +65,31 @@ hand_on-requires-clause-ready g c κs within =
 pub returns-clause-under_way : goal.returns-clause-under_way
 returns-clause-under_way g c = λ knobs trace_gave gave under.
     let old = c.args.self.now.intake.course in
-    let handed = under.heard.handed in
+    let handed = under.handed in
     let both = c.judge_and_come-judged in
     let came = of_ok _ _ _ c.in_ok-goes_on.was
     (both.ensures.came knobs trace_gave gave handed (coming_of knobs trace_gave _ gave _ c.args.self.now under)) in
     let known = on_ok_of _ _ _ c.in_ok-judged.was
     (both.ensures.judged old handed (calm_told _ c.is_calm-calm.result c.is_calm-calm.ensures.found)
-    under.heard.judged) in
+    under.judged) in
     let on = c.in_ok-hand_on.ensures in
+    let heard = on.heard knobs gave (g.C.Feed.left both.new.companion) came.bytes handed came.ready
+    (known_stays old both.new.intake.course handed both.new.judge came.same_knobs came.calm came.starts known) in
+    let taken = c.take_next.ensures in
     record {
       bytes = came.bytes;
       stands = subst (λ (b : LineBlocks). IsThen ReadsEntries trace_gave (g.T.Feed.left both.new.trace) b came.bytes
-          c.in_ok-goes_on.goes_on) (sym on.blocks) came.stands;
-      heard = on.heard knobs gave (g.C.Feed.left both.new.companion) came.bytes handed came.ready
-          (known_stays old both.new.intake.course handed both.new.judge came.same_knobs came.calm came.starts known);
+          c.in_ok-goes_on.goes_on) (sym (taken.blocks ∙ on.blocks)) came.stands;
+      handed = heard.handed;
+      pending = taken.pending knobs gave (g.C.Feed.left both.new.companion) came.bytes heard.handed heard.by;
+      judged = subst (λ (course : Course). AreJudged course heard.handed c.hand_on.new.self.judge) (sym taken.course)
+          heard.judged;
     }
 
 pub returns-clause-fed : goal.returns-clause-fed
 returns-clause-fed g c =
-    c.hand_on.ensures.fed _ _ _ (on_ok_of _ _ _ c.in_ok-goes_on.was c.judge_and_come-judged.ensures.fed)
+    let feed = g.C.Feed in
+    let companion = c.judge_and_come-judged.new.companion in
+    subst (λ (course : Course). IsFedBy (feed.calls companion) (feed.has_ended companion) (feed.has_failed companion)
+    course.companion) (sym c.take_next.ensures.course)
+    (c.hand_on.ensures.fed _ _ _ (on_ok_of _ _ _ c.in_ok-goes_on.was c.judge_and_come-judged.ensures.fed))

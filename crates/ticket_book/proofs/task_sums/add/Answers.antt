@@ -23,7 +23,8 @@ returns-in-Some c =
     let index = c.in-Some.index in
     let before = c.row_mut.result.now in
     let f = c.index_near.ensures.found index c.in-Some.is in
-    added_there sums.table sums.own c.index_near.ensures.apart c.args.tally index before c.add_to.new.sum f.0 (f.1 before)
+    added_there sums.table sums.own c.index_near.ensures.apart c.args.tally index before c.add_to.new.sum f.0
+    (f.1 before)
     (c.add_to.ensures ∙ ap (with_tallies (c.args.tally ∷ []))
     (sym (get_or_from_slice_get sums.table.rows index before before c.row_mut.ensures.value)))
 

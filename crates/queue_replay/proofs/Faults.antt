@@ -43,7 +43,14 @@ pub passed : (knobs : KnobsView) (cpu : ℕ) (old between new : ReplayState) (st
     → IsStepped knobs cpu (replay_state_view old) old.needs step new
 passed knobs cpu old between new step p e =
     subst (λ (c : ReplayState). IsStepped knobs cpu (replay_state_view old) old.needs step c) (sym e)
-    (inl (p.passes, record { fault = ap (λ x. x.fault) p.passes.1.passes.page; within = p.within; by_rows = p.by_rows }))
+    (inl (
+      p.passes,
+      record {
+        fault = ap (λ x. x.fault) p.passes.1.passes.page;
+        within = p.within;
+        by_rows = p.by_rows;
+      },
+    ))
 
 -- a step that was undone
 pub undone_state : (old new : ReplayState) → IsUndone old new → replay_state_view new ≡ replay_state_view old

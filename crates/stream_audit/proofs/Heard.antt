@@ -151,8 +151,8 @@ judged knobs bytes text events verdict are closing = (
 
 -- ---- more is read of the trace
 
-unfoldable pub pending_on : (knobs : KnobsView) (gave left : Option (List ℕ)) (bytes more : List ℕ) (old new : EntryReader)
-    (course : Course) (handed : List Claimed) (events : List Entry)
+unfoldable pub pending_on : (knobs : KnobsView) (gave left : Option (List ℕ)) (bytes more : List ℕ)
+    (old new : EntryReader) (course : Course) (handed : List Claimed) (events : List Entry)
     → lines_of (bytes ++ more) ≡ lines_of bytes ++ lines_of more → ReadsEntries old new (lines_of more)
     → IsPending knobs gave left bytes old course handed events
     → IsPending knobs gave left (bytes ++ more) new course handed events

@@ -64,8 +64,8 @@ none_heard knobs trace gave listener coming none nobody = record {
   stands = coming.stands;
   handed = [];
   pending = coming.pending;
-  judged = λ calm. settled_none IsAwaiting listener.intake.course.knobs listener.intake.course.joined listener.judge none
-      nobody;
+  judged = λ calm. settled_none IsAwaiting listener.intake.course.knobs listener.intake.course.joined listener.judge
+      none nobody;
 }
 
 -- what is under way comes in

@@ -203,8 +203,9 @@ impl Listener {
     }
 }
 
-/// Judges the window that waits, makes the next one, and makes the reads for the one behind that: each beside the others
-/// by a thread of its own, or one after the other. The companion goes to another thread for that, and the trace stays.
+/// Judges the window that waits, makes the next one, and makes the reads for the one behind that: each beside the
+/// others by a thread of its own, or one after the other. The companion goes to another thread for that, and the trace
+/// stays.
 fn judge_and_come<R: Threads + Sync, T: Feed, C: Feed + Send>(
     rt: &R,
     alloc: Global,

@@ -68,7 +68,8 @@ returns-clause-tried c cpu =
     (switch_tests c.args.knobs.now part (switch_deed s) step.claim)
     (switch_row c.args.knobs.now cpu part s.prev s.prev_nice s.way s.next s.next_nice step.claim) c.requires refl _ _
     first
-    (c.set_next.ensures.part ∙ ap (λ (p : Part). part_after_next p s.next) (c.in_ok-put_prev.ensures.part s.prev runner))
+    (c.set_next.ensures.part
+    ∙ ap (λ (p : Part). part_after_next p s.next) (c.in_ok-put_prev.ensures.part s.prev runner))
     refl
     (pick_needs_lead part s.prev s.prev_nice s.way s.next s.next_nice own c.lead-need.result c.switch_task-next.ensures
     (c.in_default.ensures.two refl) first.1.1.1.1.1.1.1.0 lead)

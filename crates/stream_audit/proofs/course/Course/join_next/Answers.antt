@@ -25,7 +25,8 @@ returns-clause-joins g c = record {
       let left = g.C.Feed.left c.read_past.new.companion in
       let went = read.went gave said before handed so next in
       let on = c.in_ok-count.ensures.ready gave left before handed
-      (subst (λ (k : KnobsView). IsReadyFor k gave left later before handed c.args.events.now) (sym read.knobs) went.0) in (
+      (subst (λ (k : KnobsView). IsReadyFor k gave left later before handed c.args.events.now) (sym read.knobs)
+      went.0) in (
         subst (λ (k : KnobsView). IsReadyFor k gave left c.join_first.new.self
             (before ++ take c.in_ok-count.count c.args.events.now) handed (drop c.in_ok-count.count c.args.events.now))
             read.knobs on.0,

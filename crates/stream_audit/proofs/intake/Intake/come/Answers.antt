@@ -38,8 +38,8 @@ returns-in-Ok-clause-came g c = λ knobs trace_gave gave handed coming.
     (λ goes_on comes. record {
       bytes = coming.bytes ++ comes.more;
       stands = comes.next;
-      ready = ready_first knobs gave _ left (coming.bytes ++ comes.more) both.new.reader self.course later handed events n
-          (pending_on knobs gave _ coming.bytes comes.more self.reader both.new.reader self.course handed events
+      ready = ready_first knobs gave _ left (coming.bytes ++ comes.more) both.new.reader self.course later handed events
+          n (pending_on knobs gave _ coming.bytes comes.more self.reader both.new.reader self.course handed events
           comes.lines comes.read pending)
           (subst (λ (es : List Entry). IsReadyFor self.course.knobs gave left later (pending.before ++ take n es) handed
           (drop n es)) c.deref.ensures.value went.0);

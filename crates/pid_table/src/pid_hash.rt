@@ -7,8 +7,8 @@ use std::hash::Hasher;
 const BLOCK: u32 = 4;
 
 /// The hash of a pid. Its lower bits, by which a table finds where to look, are those of the pid's block: a system
-/// gives pids in turn, so a new one is mostly looked for where one was put just before. Its upper two tell the pids of a
-/// block apart. A block's are multiply-shift by two keys, and a fixed permutation behind it. Over all keys any two
+/// gives pids in turn, so a new one is mostly looked for where one was put just before. Its upper two tell the pids of
+/// a block apart. A block's are multiply-shift by two keys, and a fixed permutation behind it. Over all keys any two
 /// blocks come to any two numbers equally often. So whoever doesn't know the keys can't pick pids of more than a block
 /// that collide.
 #[derive(Clone, Copy)]

@@ -61,7 +61,8 @@ pub(crate) fn join_and_read<R: Threads + Sync, T: Feed, C: Feed + Send>(
     ensures stands { IsLeftBy (T.calls trace.new) (T.has_failed trace.new) (T.has_ended trace.new) blocks.new
         result.1 }
 {
-    if beside {
+    // No thread is started to join nothing.
+    if beside && !events.is_empty() {
         return join_mut(
             rt,
             &mut ||

@@ -100,6 +100,11 @@ impl Judge {
         joined.hand_on(&mut self.window);
     }
 
+    /// Whether a window waits.
+    pub(crate) fn is_awaited(&self) -> bool {
+        !self.window.events().is_empty()
+    }
+
     /// How much was found: a fault.
     pub fn findings(&self) -> u32 {
         u32::from(matches!(self.progress, Progress::Told(_)))

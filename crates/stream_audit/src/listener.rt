@@ -244,9 +244,9 @@ fn judge_and_come<R: Threads + Sync, T: Feed, C: Feed + Send>(
         (C.has_ended companion.new))) }
 {
     let alone = judge.is_none();
-    if alone || !ahead {
+    if !ahead || !is_awaited(judge) {
         let judged = judge_waiting(rt, alloc, calm, judge);
-        let came = intake.come(rt, alloc, trace, companion, alone, false);
+        let came = intake.come(rt, alloc, trace, companion, alone, ahead);
         return (judged, came);
     }
     let first = first_of_threads(rt);
@@ -290,4 +290,12 @@ fn judge_and_come<R: Threads + Sync, T: Feed, C: Feed + Send>(
         first.join(rt);
     }
     both
+}
+
+/// Whether a window waits to be judged: no thread is started to judge none.
+fn is_awaited(judge: &Option<Judge>) -> bool {
+    match judge {
+        Some(judge) => judge.is_awaited(),
+        None => false,
+    }
 }

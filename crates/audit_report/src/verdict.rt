@@ -1,12 +1,13 @@
 //! A verdict, as an audit of two texts tells it.
 ghost use Rattle.std.specs.Prelude.{◌≡◌, ◌++◌, OnOk, string_bytes};
 ghost use Rattle.ticket_book.specs.SummaryView.{summary_view};
-ghost use Rattle.audit_report.specs.Report.{count_lines, run_lines, tally_lines};
+ghost use Rattle.audit_report.specs.Report.{count_lines, run_lines, tally_line, tally_lines};
 
 use crate::reporting::{push_fault, push_refusal};
 use crate::{Finding, Judgement};
 use audit_input::{Cause, Source};
 use cfs_model::{Knobs, Memory};
+use itoa::{Buffer, Integer};
 use pid_table::PidHasher;
 use replay_model::{FirstFault, Tally};
 use sched_record::Record;
@@ -110,18 +111,38 @@ pub(crate) fn push_counts(text: &mut String, summary: &Summary) -> Result<(), Al
     Ok(())
 }
 
-/// Writes each task's tally.
+/// Writes each task's tally. All numbers go through one buffer of digits: there may be many tasks, and a format takes
+/// twice as long for each.
 fn push_tallies(text: &mut String, tallies: &[Tally]) -> Result<(), AllocError>
     ensures { OnOk result (string_bytes text.new ≡ string_bytes text.old ++ tally_lines tallies.now) }
 {
+    let mut digits = Buffer::new();
     for tally in tallies {
-        let Tally {
-            pid,
-            ran,
-            charged,
-            picks,
-        } = tally;
-        lines!(text; "task {pid} ran {ran} charged {charged} picks {picks}");
+        push_tally(text, tally, &mut digits)?;
     }
     Ok(())
+}
+
+/// Writes one task's tally.
+fn push_tally(text: &mut String, tally: &Tally, digits: &mut Buffer) -> Result<(), AllocError>
+    ensures { OnOk result (string_bytes text.new ≡ string_bytes text.old ++ tally_line tally.now) }
+{
+    push_number(text, "task ", tally.pid, digits)?;
+    push_number(text, " ran ", tally.ran, digits)?;
+    push_number(text, " charged ", tally.charged, digits)?;
+    push_number(text, " picks ", tally.picks, digits)?;
+    text.push_str("\n")
+}
+
+/// Writes a number behind these words.
+fn push_number<I: Integer>(
+    text: &mut String,
+    words: &str,
+    number: I,
+    digits: &mut Buffer,
+) -> Result<(), AllocError>
+    ensures { OnOk result (string_bytes text.new ≡ string_bytes text.old ++ (words.now ++ I.text number)) }
+{
+    text.push_str(words)?;
+    text.push_str(digits.format(number))
 }

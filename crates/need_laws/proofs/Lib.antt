@@ -1,0 +1,2 @@
+pub mod ShortTests
+pub mod ShortFaults

@@ -1,5 +1,6 @@
 -- The first fault is at the event that needs more of a setting than there is.
-use Rattle.std.proofs.Common.{◌≡◌, ◌≢◌, ℕ, ◌+◌, ◌<◌, ◌≤◌, ◌↔◌, nat_eq, Bool, true, false, ◌||◌, if◌then◌else◌, Option, Some, None, ℤ, inl, inr}
+use Rattle.std.proofs.Common.{◌≡◌, ◌≢◌, ℕ, ◌+◌, ◌<◌, ◌≤◌, ◌↔◌, nat_eq, Bool, true, false, ◌||◌, if◌then◌else◌, Option}
+use Rattle.std.proofs.Common.{Some, None, ℤ, inl, inr}
 use Rattle.std.proofs.Common.{List, [], ◌∷◌, ◌++◌, refl, sym, ap, ◌∙◌, subst, true≢false, arith}
 use Rattle.std.proofs.lemmas.Bool.{ne_eqb}
 use Rattle.std.specs.List.{list_any}
@@ -12,7 +13,7 @@ use Rattle.cfs_model.specs.Idling.{KeepsSlack}
 use Rattle.cfs_model.specs.Run.{IsRun, last_of, times_of}
 use Rattle.replay_model.specs.Part.{Part}
 use Rattle.replay_model.specs.Cause.{FailsAt, FailsOn, FaultCause, IsActCause, SlackFails}
-use Rattle.replay_model.specs.Needs.{AreStepNeeds, IsBirthNeed, IsDriftNeed, IsPickNeed, IsWakeNeed}
+use Rattle.replay_model.specs.Needs.{AreStepNeeds, IsBirthNeed, IsDriftNeed, IsPickNeed, IsWakeNeed, idle_need}
 use Rattle.replay_model.specs.Page.{FailsTest, ReplayStateView, deadline_of, with_fault}
 use Rattle.replay_model.specs.QueueTests.{IsIdleTooLong}
 use Rattle.replay_model.specs.StepAt.{charge_for, deed_at, step_at}
@@ -94,7 +95,7 @@ fails_test knobs cpu before step kind pid idle (inl h) = inl (inr (idle, h))
 fails_test knobs cpu before step kind pid idle (inr h) = inr (h.1.0, (idle, h.0), h.1.1, h.1.2)
 
 -- with no more slack than another run of the events has, it doesn't fail
-slack_kept : (knobs wider : KnobsView) (start : ℕ) (m : Machine) (before : List Claimed) (event : Claimed)
+pub slack_kept : (knobs wider : KnobsView) (start : ℕ) (m : Machine) (before : List Claimed) (event : Claimed)
     (run : IsRun knobs start m before) → IsRun wider start m (before ++ event ∷ []) → wider.slack ≤ knobs.slack
     → (cpu : ℕ) → ¬ SlackFails knobs.slack (times_of start before) (m ∷ run.states) cpu event.entry.time
 slack_kept knobs wider start m before event run wide k cpu f =
@@ -104,7 +105,8 @@ slack_kept knobs wider start m before event run wide k cpu f =
     slack_holds wider.slack start m before event l.front l.after same
     (subst (λ xs. KeepsSlack wider.slack (times_of start (before ++ event ∷ [])) (m ∷ xs)) l.whole wide.slack) cpu
     (subst (λ xs. SlackFails wider.slack (times_of start before) (m ∷ xs) cpu event.entry.time)
-    (same_states knobs wider start m before run front ∙ one_list wider m before front.states l.front front.steps l.steps)
+    (same_states knobs wider start m before run front ∙ one_list wider m before front.states l.front front.steps
+    l.steps)
     (record {
       from = f.from;
       is_state = f.is_state;
@@ -113,14 +115,17 @@ slack_kept knobs wider start m before event run wide k cpu f =
     }))
 
 pub step_is_fault : ShortStepIsFault
-step_is_fault knobs wider other start floors tasks before rest event cpu last after needs which s rise run wide slack
-    touch r p ne short =
+step_is_fault knobs wider other start floors tasks before rest event cpu last found after needs which s rise run wide
+    slack touch r part since p ne short =
     let m = start_machine start floors tasks in
     let here = step_at cpu event in
     let follows = replay_follows knobs start floors tasks before cpu last s rise run r in
-    let fails = fails_short other knobs cpu last here after needs which p ne short in
+    let fails : FailsOn knobs cpu last.part here (kind_of which) (needing which here) =
+    subst (λ x. FailsOn knobs cpu x here (kind_of which) (needing which here)) part
+    (fails_short other knobs cpu found here after needs which p ne short) in
     let idle = idle_within knobs.slack last.since here.time
-    (subst (λ x. x ≤ knobs.slack) p.needs_are.slack (short.others Slack (λ e. ne (sym e)))) in
+    (subst (λ x. idle_need x here.time ≤ knobs.slack) since
+    (subst (λ x. x ≤ knobs.slack) p.needs_are.slack (short.others Slack (λ e. ne (sym e))))) in
     record {
       before = before;
       event = event;
@@ -134,7 +139,7 @@ step_is_fault knobs wider other start floors tasks before rest event cpu last af
           act_cause knobs (last_of m run.states) event cpu
               (record { cpu = cpu; pid = needing which here; kind = kind_of which }) event.entry.act refl touch
               (λ orig dest pid nice e other_end. not_below_none (value_at knobs which) (value_at needs which)
-              (none_for_arrival p.passes.found last.since here needs which pid nice orig event.policy ne p.needs_are
+              (none_for_arrival p.passes.found found.since here needs which pid nice orig event.policy ne p.needs_are
               (arrives event cpu orig dest pid nice e other_end)
               (uncharged event cpu pid orig nice (arrives event cpu orig dest pid nice e other_end))) short.less)
               (record {

@@ -194,7 +194,8 @@ no_charge_test knobs other cpu before step after needs p k =
     (p.passes.passes.in_range, (near_charge knobs other cpu before step after needs p k, tt))
 
 -- the first test that holds, where it is that of a wakeup, of a birth or of a pick
-first_wake : (knobs other : KnobsView) (cpu : ℕ) (part : Part) (step : Step) → NoneHolds (late_tests knobs cpu part step)
+first_wake : (knobs other : KnobsView) (cpu : ℕ) (part : Part) (step : Step)
+    → NoneHolds (late_tests knobs cpu part step)
     → (pid : ℕ) → IsWakeOutside other.credit part step.deed step.claim pid
     → FirstHolds (late_tests other cpu part step) WakeBounds pid
 first_wake knobs other cpu part step none pid h =
@@ -237,7 +238,8 @@ first_wake knobs other cpu part step none pid h =
       ),
     )
 
-first_fork : (knobs other : KnobsView) (cpu : ℕ) (part : Part) (step : Step) → NoneHolds (late_tests knobs cpu part step)
+first_fork : (knobs other : KnobsView) (cpu : ℕ) (part : Part) (step : Step)
+    → NoneHolds (late_tests knobs cpu part step)
     → ((pid : ℕ) → ¬ IsWakeOutside other.credit part step.deed step.claim pid)
     → (pid : ℕ) → IsForkOutside other.debit part step.deed step.claim pid
     → FirstHolds (late_tests other cpu part step) ForkBounds pid
@@ -281,7 +283,8 @@ first_fork knobs other cpu part step none wake pid h =
       ),
     )
 
-first_pick : (knobs other : KnobsView) (cpu : ℕ) (part : Part) (step : Step) → NoneHolds (late_tests knobs cpu part step)
+first_pick : (knobs other : KnobsView) (cpu : ℕ) (part : Part) (step : Step)
+    → NoneHolds (late_tests knobs cpu part step)
     → ((pid : ℕ) → ¬ IsWakeOutside other.credit part step.deed step.claim pid)
     → ((pid : ℕ) → ¬ IsForkOutside other.debit part step.deed step.claim pid)
     → (pid : ℕ) → IsNotLeast other.granularity part step.deed pid
@@ -346,7 +349,8 @@ fails_short knobs other cpu before step after needs Credit p not_slack short =
         p.passes.found,
         p.passes.passes.is_found,
         first_wake knobs other cpu p.passes.found step none (placed_by step.deed)
-            (low_wake other.credit needs.credit p.passes.found step.deed step.claim p.needs_are.credit c.extra short.less),
+            (low_wake other.credit needs.credit p.passes.found step.deed step.claim p.needs_are.credit c.extra
+            short.less),
       ),
     )
 fails_short knobs other cpu before step after needs Debit p not_slack short =
@@ -357,7 +361,8 @@ fails_short knobs other cpu before step after needs Debit p not_slack short =
         found,
         p.passes.passes.is_found,
         first_fork knobs other cpu found step p.passes.passes.none
-            (no_wake_at_birth other.debit needs.debit other.credit found step.deed step.claim p.needs_are.debit short.less)
+            (no_wake_at_birth other.debit needs.debit other.credit found step.deed step.claim p.needs_are.debit
+            short.less)
             (placed_by step.deed)
             (high_birth other.debit needs.debit found step.deed step.claim p.needs_are.debit short.less),
       ),

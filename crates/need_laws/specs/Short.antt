@@ -53,18 +53,19 @@ pub record IsShort (which : Setting) (needs knobs : KnobsView) : Type 0 where
   pub less : value_at knobs which < value_at needs which
   pub others : (other : Setting) → other ≢ which → value_at needs other ≤ value_at knobs other
 
--- where the events before one are a run, and those with it are one by no more slack, and its step at a processor needs
--- more of another setting than there is, and no more of the others, the first fault of all events is at this one, and
--- is of that setting and of the task of which so much is needed
+-- where the events before one are a run, and those with it are one by no more slack, and its step at a processor, as
+-- the replay of these finds it, needs more of another setting than there is, and no more of the others, the first fault
+-- of all events is at this one, and is of that setting and of the task of which so much is needed
 abbrev pub ShortStepIsFault : Type 0
 ShortStepIsFault = (knobs wider other : KnobsView) (start : ℕ) (floors : List ℤ) (tasks : List Task)
-    (before rest : List Claimed) (event : Claimed) (cpu : ℕ) (last after : ReplayStateView) (needs : KnobsView)
+    (before rest : List Claimed) (event : Claimed) (cpu : ℕ) (last found after : ReplayStateView) (needs : KnobsView)
     (which : Setting)
     → IsStart floors tasks → TimesRise start before
     → IsRun knobs start (start_machine start floors tasks) before
     → IsRun wider start (start_machine start floors tasks) (before ++ event ∷ []) → wider.slack ≤ knobs.slack
     → touches cpu event ≡ true → IsCutReplay knobs start floors tasks before cpu last
-    → PassesNeeding other cpu last (step_at cpu event) after needs
+    → found.part ≡ last.part → found.since ≡ last.since
+    → PassesNeeding other cpu found (step_at cpu event) after needs
     → which ≢ Slack → IsShort which needs knobs
     → IsFirstFault knobs start (start_machine start floors tasks) (before ++ event ∷ rest) event.entry.line (record {
       cpu = cpu;

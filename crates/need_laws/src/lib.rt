@@ -1,9 +1,12 @@
 //! The laws of what settings are short of: where a step needs more of one setting than there is, and no more of any
-//! other, this is what is wrong with it. Each law is the contract of a function that does nothing. It names the files of
-//! `proofs` that carry it, the topmost first.
+//! other, this is what is wrong with it. So the places of least settings are found in a record that comes in windows.
+//! Each law is the contract of a function that does nothing. It names the files of `proofs` that carry it, the topmost
+//! first.
 #![tactic(auto)]
 
+ghost use Rattle.need_laws.specs.Reaching.{IdlingIsFault, ReachedIsFault};
 ghost use Rattle.need_laws.specs.Short.{ShortSlackIsFault, ShortStepIsFault};
+ghost use Rattle.need_laws.specs.Within.{FrontWithinIsRun};
 
 /// Where the events before one are a run, and that one needs more of a setting than there is, and no more of any other,
 /// the first fault is at it, and is that of the setting.
@@ -12,4 +15,28 @@ ghost use Rattle.need_laws.specs.Short.{ShortSlackIsFault, ShortStepIsFault};
 pub fn shortfalls()
     ensures step { ShortStepIsFault }
     ensures slack { ShortSlackIsFault }
+{}
+
+/// Where some events are a run so far, and at each processor the front of them needs no more than other settings, that
+/// front is a run at those.
+///
+/// Carried by WithinRuns; then the laws `composition` of `replay_laws` and `pages` of `part_laws`.
+pub fn fronts()
+    ensures { FrontWithinIsRun }
+{}
+
+/// The first step of a window, at any processor, that needs more of a setting than there is, is where the first fault
+/// is.
+///
+/// Carried by ReachFaults, FirstReach; then WithinRuns and ShortFaults.
+pub fn reached()
+    ensures { ReachedIsFault }
+{}
+
+/// The first event of a window by whose time a processor has idled for longer than the slack is where the first fault
+/// is.
+///
+/// Carried by IdleFaults, IdleFronts; then FirstReach, WithinRuns and ShortFaults.
+pub fn idling()
+    ensures { IdlingIsFault }
 {}

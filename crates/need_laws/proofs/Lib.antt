@@ -6,3 +6,5 @@ pub mod WindowFronts
 pub mod ReachFaults
 pub mod IdleFronts
 pub mod IdleFaults
+pub mod RoseLast
+pub mod PlacesSoFar

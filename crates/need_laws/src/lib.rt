@@ -4,7 +4,9 @@
 //! first.
 #![tactic(auto)]
 
+ghost use Rattle.need_laws.specs.Places.{PlaceStays, WindowHasIdling, WindowHasPlace};
 ghost use Rattle.need_laws.specs.Reaching.{IdlingIsFault, ReachedIsFault};
+ghost use Rattle.need_laws.specs.Rising.{RisesByNext, StaysByNext};
 ghost use Rattle.need_laws.specs.Short.{ShortSlackIsFault, ShortStepIsFault};
 ghost use Rattle.need_laws.specs.Within.{FrontWithinIsRun};
 
@@ -39,4 +41,22 @@ pub fn reached()
 /// Carried by IdleFaults, IdleFronts; then FirstReach, WithinRuns and ShortFaults.
 pub fn idling()
     ensures { IdlingIsFault }
+{}
+
+/// By one step more what a replay needs of a setting rises, and then last by that step, or it stays as it was.
+///
+/// Carried by RoseLast.
+pub fn rises()
+    ensures rises { RisesByNext }
+    ensures stays { StaysByNext }
+{}
+
+/// Where what is needed of a setting rises in a window, its place is the first step of all processors that needs so
+/// much, or of the slack the first event by whose time one has idled for so long; and it stays with more events.
+///
+/// Carried by PlacesSoFar; then ReachFaults and IdleFaults.
+pub fn places()
+    ensures stays { PlaceStays }
+    ensures place { WindowHasPlace }
+    ensures idling { WindowHasIdling }
 {}

@@ -8,3 +8,5 @@ pub mod IdleFronts
 pub mod IdleFaults
 pub mod RoseLast
 pub mod PlacesSoFar
+pub mod LeastOfWindows
+pub mod EventOfRise

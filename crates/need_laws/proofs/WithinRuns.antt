@@ -77,7 +77,7 @@ replay_split knobs cpu before (step ∷ steps) more after r =
     (s.0, (r.0, r.1, s.1), s.2)
 
 -- a stream's replays begin alike
-same_start : (stream : StreamView) (a b : ReplayStateView) → IsStartOf stream a → IsStartOf stream b → a ≡ b
+pub same_start : (stream : StreamView) (a b : ReplayStateView) → IsStartOf stream a → IsStartOf stream b → a ≡ b
 same_start stream a b p q =
     let part : a.part ≡ b.part = p.part ∙ sym q.part in
     let since = same_since None stream.start b.part a.since b.since
@@ -88,7 +88,7 @@ same_start stream a b p q =
     ∙ ap (λ (x : PageView). record { part = b.part; since = b.since; page = x }) page
 
 -- at most one task runs at a processor of an ordered machine
-one_runs_at : (m : Machine) → IsInOrder m → (cpu : ℕ) → OneRunsIn (part_of m cpu)
+pub one_runs_at : (m : Machine) → IsInOrder m → (cpu : ℕ) → OneRunsIn (part_of m cpu)
 one_runs_at m o cpu pid other h k = o.one_runs cpu pid other (stands_at m Run cpu pid h) (stands_at m Run cpu other k)
 
 -- births that are new are so without those behind them

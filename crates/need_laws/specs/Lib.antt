@@ -3,3 +3,5 @@ pub mod Within
 pub mod Reaching
 pub mod Rising
 pub mod Places
+pub mod LeastSoFar
+pub mod RiseEvents

@@ -4,8 +4,10 @@
 //! first.
 #![tactic(auto)]
 
+ghost use Rattle.need_laws.specs.LeastSoFar.{NeedsGoOn, NeedsTellLeast, NoneFails};
 ghost use Rattle.need_laws.specs.Places.{PlaceStays, WindowHasIdling, WindowHasPlace};
 ghost use Rattle.need_laws.specs.Reaching.{IdlingIsFault, ReachedIsFault};
+ghost use Rattle.need_laws.specs.RiseEvents.{EventStays, RiseHasEvent};
 ghost use Rattle.need_laws.specs.Rising.{RisesByNext, StaysByNext};
 ghost use Rattle.need_laws.specs.Short.{ShortSlackIsFault, ShortStepIsFault};
 ghost use Rattle.need_laws.specs.Within.{FrontWithinIsRun};
@@ -59,4 +61,22 @@ pub fn places()
     ensures stays { PlaceStays }
     ensures place { WindowHasPlace }
     ensures idling { WindowHasIdling }
+{}
+
+/// Where some events are a run so far, the largest needs of the replays in windows are their least settings; and a
+/// window's steps add to what is known of these.
+///
+/// Carried by LeastOfWindows; then the laws `needs` of `replay_laws` and `pages` of `part_laws`.
+pub fn least_so_far()
+    ensures least { NeedsTellLeast }
+    ensures more { NeedsGoOn }
+    ensures none { NoneFails }
+{}
+
+/// A step by which needs rose in a window has its event there, and the machine behind that has the replay's part.
+///
+/// Carried by EventOfRise; then the law `replays` of `replay_laws`.
+pub fn rise_events()
+    ensures event { RiseHasEvent }
+    ensures stays { EventStays }
 {}

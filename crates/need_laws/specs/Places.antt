@@ -22,7 +22,7 @@ use Rattle.need_laws.specs.Reaching.{IdlesAtEnd, IdlesAtStep, IdlesFrom, NeedsSo
 use Rattle.need_laws.specs.Rising.{RoseBy}
 use Rattle.need_laws.specs.Short.{kind_of, needing}
 
--- these settings have a nanosecond less of one setting than others, and as much of each other
+-- other settings have a nanosecond less of one setting than these, and at least as much of each other
 pub record LackOne (which : Setting) (knobs other : KnobsView) : Type 0 where
   pub one : value_at other which + 1 ≡ value_at knobs which
   pub others : (setting : Setting) → (setting ≡ which) ⊎ (value_at knobs setting ≤ value_at other setting)
@@ -57,8 +57,8 @@ pub record SawWindow (knobs least : KnobsView) (start : ℕ) (floors : List ℤ)
   pub had_most : (cpu : ℕ) → cpu < cpus → AtMost (had cpu) least
   pub here_most : (cpu : ℕ) → cpu < cpus → AtMost (here cpu) least
 
--- a processor's steps of a window need less of a setting than the least settings have, or as much, and the first that
--- does isn't above a line
+-- a processor's steps of a window need less of a setting than the least settings have; or they need as much, and the
+-- first that does isn't above a line
 abbrev pub RisesFrom : KnobsView → KnobsView → ℕ → ReplayStateView → List Step → ReplayStateView → KnobsView → KnobsView
     → Setting → ℕ → Type 0
 RisesFrom knobs least cpu from steps ends had here which line =
@@ -76,8 +76,7 @@ WindowHasPlace = (knobs least : KnobsView) (start : ℕ) (floors : List ℤ) (ta
     → SawWindow knobs least start floors tasks before window cpus kept ends had here behind alive
     → ((one : ℕ) → one < cpus → value_at (had one) which < value_at least which)
     → ((one : ℕ) → one < cpus → RisesFrom knobs least one (kept one) (steps_at one window) (ends one) (had one)
-    (here one)
-    which step.line)
+    (here one) which step.line)
     → which ≢ Slack → cpu < cpus → value_at (here cpu) which ≡ value_at least which
     → RoseBy knobs cpu (kept cpu) (steps_at cpu window) (ends cpu) (had cpu) (here cpu) which step since left
     → NeedsAt start floors tasks (before ++ window) least which step.line cpu (needing which step)

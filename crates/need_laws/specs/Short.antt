@@ -54,8 +54,8 @@ pub record IsShort (which : Setting) (needs knobs : KnobsView) : Type 0 where
   pub others : (other : Setting) → other ≢ which → value_at needs other ≤ value_at knobs other
 
 -- where the events before one are a run, and those with it are one by no more slack, and its step at a processor, as
--- the replay of these finds it, needs more of another setting than there is, and no more of the others, the first fault
--- of all events is at this one, and is of that setting and of the task of which so much is needed
+-- the replay of those before finds it, needs more of another setting than there is, and no more of the others, the
+-- first fault of all events is at this one, and is of that setting and of the task of which so much is needed
 abbrev pub ShortStepIsFault : Type 0
 ShortStepIsFault = (knobs wider other : KnobsView) (start : ℕ) (floors : List ℤ) (tasks : List Task)
     (before rest : List Claimed) (event : Claimed) (cpu : ℕ) (last found after : ReplayStateView) (needs : KnobsView)

@@ -1,5 +1,4 @@
 pub mod Codes
-pub mod Finding
 pub mod Report
 pub mod Taken
 pub mod Beside

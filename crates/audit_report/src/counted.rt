@@ -3,7 +3,7 @@ ghost use Rattle.std.specs.Prelude.{◌≡◌};
 
 use crate::reporting::{push_fault, push_refusal};
 use crate::verdict::push_counts;
-use crate::{Finding, Judgement};
+use crate::{Finding, Judgement, Streamed};
 use audit_input::{Cause, Source};
 use cfs_model::{Knobs, Memory};
 use pid_table::PidHasher;
@@ -49,10 +49,7 @@ impl Judgement for Counted {
         _knobs: Knobs,
         _hasher: PidHasher,
     ) -> Result<Counted, Memory> {
-        match finding {
-            Finding::Verdict(verdict) => Ok(Counted { verdict }),
-            Finding::Least(_) => unreachable!(),
-        }
+        Ok(Counted::of_stream(finding))
     }
 
     fn runs() {}
@@ -75,5 +72,12 @@ impl Judgement for Counted {
 
     fn fault(&self) -> Option<FirstFault> {
         self.verdict.fault()
+    }
+}
+
+impl Streamed for Counted {
+    fn of_stream(finding: Finding) -> Counted {
+        let verdict = Verdict::of_stream(finding);
+        Counted { verdict }
     }
 }

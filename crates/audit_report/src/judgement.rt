@@ -1,7 +1,7 @@
 ghost use Rattle.std.specs.Prelude.{◌≡◌, ◌++◌, ℕ, Bool, IfOk, List, None, OnOk, Option, string_bytes};
 ghost use Rattle.audit_input.specs.declared.cause.Cause.{Cause};
 ghost use Rattle.audit_input.specs.declared.source.Source.{Source};
-ghost use Rattle.audit_report.specs.Finding.{IsFinding};
+ghost use Rattle.least_places.specs.Finding.{IsFinding};
 ghost use Rattle.cfs_model.specs.Knobs.{KnobsView};
 ghost use Rattle.cfs_model.specs.Run.{IsRun};
 ghost use Rattle.replay_model.specs.declared.first_fault.FirstFault.{FirstFault};

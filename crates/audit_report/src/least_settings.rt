@@ -3,7 +3,7 @@ ghost use Rattle.std.specs.Prelude.{◌≡◌, ◌++◌, OnOk, Some, string_byte
 ghost use Rattle.audit_report.specs.Report.{lines_of_settings, place_words, setting_line, setting_lines, told_settings};
 
 use crate::reporting::{push_fault, push_refusal};
-use crate::{Finding, Judgement};
+use crate::{Finding, Judgement, Streamed};
 use audit_input::{Cause, Source};
 use cfs_model::{Knobs, Memory, Setting};
 use least_places::{LeastFigures, Place, Places};
@@ -64,10 +64,7 @@ impl Judgement for LeastFigures {
         _knobs: Knobs,
         _hasher: PidHasher,
     ) -> Result<LeastFigures, Memory> {
-        match finding {
-            Finding::Least(figures) => Ok(figures),
-            Finding::Verdict(_) => unreachable!(),
-        }
+        Ok(LeastFigures::of_stream(finding))
     }
 
     fn runs() {}
@@ -94,6 +91,15 @@ impl Judgement for LeastFigures {
         match self {
             LeastFigures::Found { .. } => None,
             LeastFigures::Fault(fault) => Some(*fault),
+        }
+    }
+}
+
+impl Streamed for LeastFigures {
+    fn of_stream(finding: Finding) -> LeastFigures {
+        match finding {
+            Finding::Least(figures) => figures,
+            Finding::Verdict(_) => unreachable!(),
         }
     }
 }

@@ -2,7 +2,6 @@
 #![tactic(auto)]
 
 mod counted;
-mod finding;
 mod judgement;
 mod least_settings;
 mod outcome;
@@ -10,19 +9,21 @@ mod reporting;
 mod sink;
 mod sink_of;
 mod status;
+mod streamed;
 mod verdict;
 mod wait_lines;
 mod with_waits;
 mod writing;
 
 pub use counted::Counted;
-pub use finding::Finding;
 pub use judgement::Judgement;
+pub use least_places::Finding;
 pub use least_settings::told_settings;
 pub use outcome::Outcome;
 pub use reporting::{least_report, report};
 pub use sink::Sink;
 pub use sink_of::SinkOf;
 pub use status::Status;
+pub use streamed::Streamed;
 pub use with_waits::WithWaits;
 pub use writing::write_report;

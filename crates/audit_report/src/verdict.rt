@@ -4,7 +4,7 @@ ghost use Rattle.ticket_book.specs.SummaryView.{summary_view};
 ghost use Rattle.audit_report.specs.Report.{count_lines, run_lines, tally_line, tally_lines};
 
 use crate::reporting::{push_fault, push_refusal};
-use crate::{Finding, Judgement};
+use crate::{Finding, Judgement, Streamed};
 use audit_input::{Cause, Source};
 use cfs_model::{Knobs, Memory};
 use itoa::{Buffer, Integer};
@@ -53,10 +53,7 @@ impl Judgement for Verdict {
         _knobs: Knobs,
         _hasher: PidHasher,
     ) -> Result<Verdict, Memory> {
-        match finding {
-            Finding::Verdict(verdict) => Ok(verdict),
-            Finding::Least(_) => unreachable!(),
-        }
+        Ok(Verdict::of_stream(finding))
     }
 
     fn runs() {}
@@ -81,6 +78,15 @@ impl Judgement for Verdict {
         match self {
             Verdict::Run(_) => None,
             Verdict::Fault(fault) => Some(*fault),
+        }
+    }
+}
+
+impl Streamed for Verdict {
+    fn of_stream(finding: Finding) -> Verdict {
+        match finding {
+            Finding::Verdict(verdict) => verdict,
+            Finding::Least(_) => unreachable!(),
         }
     }
 }

@@ -2,7 +2,7 @@
 
 use crate::answers::wants_about;
 use crate::ends::whole;
-use crate::runs::least_ran;
+use crate::runs::{least_ran, least_ran_in_blocks};
 use cfs_model::{Kind, Knobs};
 use replay_model::FirstFault;
 use sched_audit::{Cause, LeastFigures, Outcome, Place, Places, Source, Status, least_report};
@@ -87,6 +87,21 @@ fn the_drift_is_told_where_the_companion_is_of_version_3(rt: HostRuntime) {
         let (answer, written) = least_ran(&rt, rt.alloc(), whole(TRACE), whole(companion));
         wants_about(&rt, report, &answer, &Ok(*status));
         wants_about(&rt, report, &written.as_slice(), &report.as_bytes());
+    }
+}
+
+/// How many bytes a read asks for, and how many events a window has.
+static SIZES: [(u32, usize); 4] = [(1, 1), (7, 2), (100, 7), (65536, 4096)];
+
+#[test]
+fn blocks_and_windows_of_any_size_tell_the_same_least_settings(rt: HostRuntime) {
+    for (companion, status, report) in &REPORTS {
+        for sizes in &SIZES {
+            let ends = (whole(TRACE), whole(companion));
+            let (answer, written) = least_ran_in_blocks(&rt, rt.alloc(), ends.0, ends.1, *sizes);
+            wants_about(&rt, report, &answer, &Ok(*status));
+            wants_about(&rt, report, &written.as_slice(), &report.as_bytes());
+        }
     }
 }
 

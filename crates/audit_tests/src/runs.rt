@@ -4,7 +4,10 @@
 use crate::ends::{Narrow, Pieces, Room, ample};
 use cfs_model::Knobs;
 use json_audit::{Told, run_json};
-use sched_audit::{Fault, FeedOf, OpenGate, SinkOf, Sizes, Status, run, run_in_blocks, run_least};
+use sched_audit::{
+    Fault, FeedOf, OpenGate, SinkOf, Sizes, Status, run, run_in_blocks, run_least,
+    run_least_in_blocks,
+};
 use std::alloc::Global;
 use std::process::Abort;
 use std::random::RandomSource;
@@ -87,6 +90,27 @@ pub fn least_ran<R: RandomSource + Threads + Wait + Sync>(
         &mut FeedOf::new(&mut trace),
         &mut FeedOf::new(&mut companion),
         &OpenGate,
+        &mut SinkOf::new(&mut out),
+    );
+    (status, out.taken)
+}
+
+/// The same of two inputs that are read at once, in blocks and windows of these sizes.
+pub fn least_ran_in_blocks<R: RandomSource + Threads + Sync>(
+    rt: &R,
+    alloc: Global,
+    trace: Pieces<'_>,
+    companion: Pieces<'_>,
+    (block, window): (u32, usize),
+) -> (Result<Status, Fault>, Vec<u8>) {
+    let (mut trace, mut companion) = (trace, companion);
+    let mut out = Narrow::new(alloc, ample());
+    let status = run_least_in_blocks(
+        rt,
+        alloc,
+        &mut FeedOf::new(&mut trace),
+        &mut FeedOf::new(&mut companion),
+        Sizes::new(block.max(1), window.max(1)),
         &mut SinkOf::new(&mut out),
     );
     (status, out.taken)

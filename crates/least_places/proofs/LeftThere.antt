@@ -59,7 +59,7 @@ stays knobs cpu s fault f [] = refl
 stays knobs cpu s fault f (step ∷ steps) =
     (s, subst (λ o. IsReplayStep knobs cpu o s step s) (sym f) refl, stays knobs cpu s fault f steps)
 
-last_in_order : (m : Machine) (states : List Machine) → IsInOrder m → AllByRecursion IsInOrder states
+pub last_in_order : (m : Machine) (states : List Machine) → IsInOrder m → AllByRecursion IsInOrder states
     → IsInOrder (last_of m states)
 last_in_order m [] o all = o
 last_in_order m (after ∷ states) o all = last_in_order after states all.0 all.1

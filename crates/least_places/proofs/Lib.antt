@@ -1,8 +1,8 @@
 mod FrontSteps
-mod LeftThere
+pub mod LeftThere
 mod Lessened
-mod NeededFirst
+pub mod NeededFirst
 mod OneOver
-mod OnLine
+pub mod OnLine
 mod OnePlace
-mod Waiting
+pub mod Waiting

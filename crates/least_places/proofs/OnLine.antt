@@ -21,8 +21,15 @@ same_some : (a b : ℕ) → Some a ≡ Some b → a ≡ b
 same_some a b e = cc
 
 -- the entries of events
-abbrev entries_of : List Claimed → List Entry
+abbrev pub entries_of : List Claimed → List Entry
 entries_of events = map (λ (event : Claimed). event.entry) events
+
+-- of lines that rise from above one each is above it
+pub line_above : (from : ℕ) (before : List Claimed) (event : Claimed) (rest : List Claimed)
+    → LinesRise from (before ++ event ∷ rest) → from < event.entry.line
+line_above from [] event rest rise = rise.0
+line_above from (first ∷ before) event rest rise =
+    (let k = line_above first.entry.line before event rest rise.1 in let j = rise.0 in omega (arith, k, j))
 
 -- the switch on the line of an event is that event's
 first_there : (from : ℕ) (before : List Claimed) (event : Claimed) (rest : List Claimed)
@@ -32,20 +39,14 @@ first_there from [] event rest rise =
     ap (λ b. cond b (switched_by event.entry.act) (switched_on_line (entries_of rest) event.entry.line))
     (eq-eqb event.entry.line event.entry.line refl)
 first_there from (first ∷ before) event rest rise =
-    let behind = below first.entry.line before event rest rise.1 in
+    let behind = line_above first.entry.line before event rest rise.1 in
     ap (λ b. cond b (switched_by first.entry.act)
     (switched_on_line (entries_of (before ++ event ∷ rest)) event.entry.line))
     (ne_eqb first.entry.line event.entry.line (λ e. omega (arith, behind, e)))
     ∙ first_there first.entry.line before event rest rise.1
-  where
-    below : (from : ℕ) (before : List Claimed) (event : Claimed) (rest : List Claimed)
-        → LinesRise from (before ++ event ∷ rest) → from < event.entry.line
-    below from [] event rest rise = rise.0
-    below from (first ∷ before) event rest rise =
-        (let k = below first.entry.line before event rest rise.1 in let j = rise.0 in omega (arith, k, j))
 
 -- the entries of a record's events are its own
-same_entries : (r : RecordView) → entries_of (events_of r) ≡ r.events
+pub same_entries : (r : RecordView) → entries_of (events_of r) ≡ r.events
 same_entries r = go r.events
   where
     go : (entries : List Entry)

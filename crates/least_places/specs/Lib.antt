@@ -1,3 +1,4 @@
+pub mod Finding
 pub mod LeastAnswer
 pub mod Left
 pub mod OneLeastAnswer

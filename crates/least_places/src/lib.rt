@@ -3,6 +3,7 @@
 
 mod figures;
 mod finding;
+mod found;
 mod laws;
 mod leaving;
 mod place;
@@ -11,6 +12,7 @@ mod placing;
 
 pub use figures::LeastFigures;
 pub use finding::least_figures;
+pub use found::Finding;
 pub use laws::{fronts_need_less, one_least_figures};
 pub use place::Place;
 pub use places::Places;

@@ -1,9 +1,5 @@
 -- The event of a step by which needs rose: the replay up to it is that of a run, so the machine has its part.
 use Rattle.std.proofs.Common.{◌≡◌, List, [], ◌∷◌, ◌++◌, append_assoc, refl, sym, ap, ◌∙◌, subst}
-use Rattle.std.proofs.Math.Nat.{zero-max}
-use Rattle.cfs_model.specs.Knobs.{KnobsView, value_at}
-use Rattle.cfs_model.specs.declared.setting.Setting.{Setting}
-use Rattle.cfs_model.specs.declared.setting.Setting.TheVariants.{Granularity, Credit, Debit, Slack, Drift}
 use Rattle.cfs_model.specs.Least.{AtMost, larger}
 use Rattle.cfs_model.specs.Machine.{Machine}
 use Rattle.cfs_model.specs.Run.{IsRun, last_of}
@@ -15,9 +11,9 @@ use Rattle.replay_model.specs.Record.{IsRecord}
 use Rattle.replay_laws.specs.CutReplay.{IsCutReplay}
 use Rattle.window_laws.specs.Kept.{state_behind}
 use Rattle.need_laws.specs.RiseEvents.{EventStays, RiseHasEvent}
-use Rattle.cfs_model.proofs.LeastSettings.{at_most_trans, below_larger, larger_at_most, larger_nothing}
+use Rattle.cfs_model.proofs.LeastSettings.{at_most_trans, below_larger, larger_at_most}
 use Rattle.cfs_model.proofs.LeastSettings.{other_below_larger}
-use Rattle.cfs_model.proofs.LeastSettings.{same_settings, same_states}
+use Rattle.cfs_model.proofs.LeastSettings.{same_states}
 use Rattle.cfs_model.proofs.Prefix.{run_prefix}
 use Rattle.replay_laws.proofs.following.Follow.{touched_steps}
 use Rattle.replay_laws.proofs.following.FollowLaws.{replay_follows}
@@ -25,6 +21,7 @@ use Rattle.replay_laws.proofs.telling.Fronts.{record_front}
 use Rattle.window_laws.proofs.Appended.{steps_append}
 use Rattle.window_laws.proofs.NeedsAppended.{needs_append}
 use Rattle.need_laws.proofs.FirstReach.{event_of}
+use Rattle.need_laws.proofs.RoseLast.{larger_none}
 use Rattle.need_laws.proofs.WindowFronts.{cut_by}
 
 pub rise_has_event : RiseHasEvent
@@ -73,16 +70,6 @@ rise_has_event knobs least start floors tasks before window cpus kept ends had h
       part = λ other run. ap (λ (xs : List Machine). part_of (last_of m xs) cpu)
           (same_states other least start m all run up_to) ∙ follows.1 ∙ sym rose.left_is;
     }
-  where
-    larger_none : (needs : KnobsView) → larger needs (only_slack 0) ≡ needs
-    larger_none needs = sym (larger_nothing needs) ∙ same_settings (larger (only_slack 0) needs) needs each
-      where
-        each : (which : Setting) → value_at (larger (only_slack 0) needs) which ≡ value_at needs which
-        each Granularity = zero-max needs.granularity
-        each Credit = zero-max needs.credit
-        each Debit = zero-max needs.debit
-        each Slack = zero-max needs.slack
-        each Drift = zero-max needs.drift
 
 pub event_stays : EventStays
 event_stays start floors tasks events more cpu step left e = record {

@@ -1,18 +1,19 @@
 -- By one step more what is needed of a setting rises, or stays as it was.
 use Rattle.std.proofs.Common.{◌≡◌, ℕ, zero, suc, ◌+◌, ◌<◌, ◌≤◌, max, [], ◌∷◌, ◌++◌, append_assoc}
 use Rattle.std.proofs.Common.{refl, sym, ap, ◌∙◌, subst, arith}
+use Rattle.std.proofs.Math.Nat.{zero-max}
 use Rattle.cfs_model.specs.Knobs.{KnobsView, value_at}
 use Rattle.cfs_model.specs.Least.{larger}
 use Rattle.cfs_model.specs.declared.setting.Setting.{Setting}
 use Rattle.cfs_model.specs.declared.setting.Setting.TheVariants.{Granularity, Credit, Debit, Slack, Drift}
 use Rattle.replay_model.specs.Needs.{only_slack}
 use Rattle.replay_model.specs.Page.{ReplayStateView}
-use Rattle.cfs_model.proofs.LeastSettings.{larger_of_three}
+use Rattle.cfs_model.proofs.LeastSettings.{larger_nothing, larger_of_three, same_settings}
 use Rattle.window_laws.proofs.NeedsAppended.{needs_append}
 use Rattle.need_laws.specs.Rising.{RisesByNext, StaysByNext}
 
 -- the value of the larger of two
-larger_at : (one other : KnobsView) (which : Setting)
+pub larger_at : (one other : KnobsView) (which : Setting)
     → value_at (larger one other) which ≡ max (value_at one which) (value_at other which)
 larger_at one other Granularity = refl
 larger_at one other Credit = refl
@@ -20,12 +21,23 @@ larger_at one other Debit = refl
 larger_at one other Slack = refl
 larger_at one other Drift = refl
 
-no_slack_at : (which : Setting) → value_at (only_slack 0) which ≡ 0
+pub no_slack_at : (which : Setting) → value_at (only_slack 0) which ≡ 0
 no_slack_at Granularity = refl
 no_slack_at Credit = refl
 no_slack_at Debit = refl
 no_slack_at Slack = refl
 no_slack_at Drift = refl
+
+-- nothing more is the same
+pub larger_none : (needs : KnobsView) → larger needs (only_slack 0) ≡ needs
+larger_none needs = sym (larger_nothing needs) ∙ same_settings (larger (only_slack 0) needs) needs each
+  where
+    each : (which : Setting) → value_at (larger (only_slack 0) needs) which ≡ value_at needs which
+    each Granularity = zero-max needs.granularity
+    each Credit = zero-max needs.credit
+    each Debit = zero-max needs.debit
+    each Slack = zero-max needs.slack
+    each Drift = zero-max needs.drift
 
 -- the numbers of a rise
 record Rise (a h m : ℕ) : Type 0 where

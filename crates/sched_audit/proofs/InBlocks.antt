@@ -1,5 +1,5 @@
 -- How a run ends that heard both inputs at once: by the ending of its write.
-use Rattle.std.proofs.Common.{◌≡◌, ℕ, Bool, ◌⊎◌, inl, inr, Result, Ok, Err, List, Option, IfErr, IsErrOf, OnOk}
+use Rattle.std.proofs.Common.{◌≡◌, ℕ, Bool, ◌⊎◌, inl, inr, Result, Ok, Err, List, Option, IfErr}
 use Rattle.audit_input.specs.declared.fault.Fault.{Fault}
 use Rattle.audit_input.specs.declared.fault.Fault.TheVariants.{ReadTrace, ReadCompanion, Write, Memory}
 use Rattle.audit_report.specs.declared.outcome.Outcome.{Outcome}
@@ -7,16 +7,21 @@ use Rattle.cfs_model.specs.Knobs.{KnobsView}
 use Rattle.sched_audit.specs.Answer.{OutcomeAnswer}
 use Rattle.sched_audit.specs.Run.{IsOutcomeOf}
 use Rattle.sched_record.specs.Record.{RecordView}
+use Rattle.stream_audit.specs.Aim.{AimView}
 use Rattle.stream_audit.specs.Hearing.{Input, IsHearingOf, IsOutcome, ReadsBoth}
 use Rattle.stream_audit.specs.declared.hearing.Hearing.{Hearing}
 
+-- what is asked for, by its settings and by whether it is the least ones
+abbrev pub aim_of : KnobsView → Bool → AimView
+aim_of knobs least = record { knobs = knobs; least = least }
+
 -- what was heard is the outcome of the bytes that both inputs gave
-pub outcome_heard : {J : Type 0} (is_of : RecordView → J → Type 0) (knobs : KnobsView) (gave given : Option (List ℕ))
+pub outcome_heard : {J : Type 0} (is_of : RecordView → J → Type 0) (aim : AimView) (gave given : Option (List ℕ))
     (hearing : Hearing) (o : Outcome J)
-    → ((trace companion : List ℕ) → IsOutcome knobs trace companion hearing.outcome
+    → ((trace companion : List ℕ) → IsOutcome aim trace companion hearing.outcome
     → OutcomeAnswer is_of trace companion o)
-    → IsHearingOf knobs gave given hearing → IsOutcomeOf is_of gave given o hearing.tells_charges
-outcome_heard is_of knobs gave given hearing o said is = record {
+    → IsHearingOf aim gave given hearing → IsOutcomeOf is_of gave given o hearing.tells_charges
+outcome_heard is_of aim gave given hearing o said is = record {
   trace_bytes = is.trace_bytes;
   companion_bytes = is.companion_bytes;
   trace_whole = is.trace_whole;

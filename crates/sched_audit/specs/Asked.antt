@@ -14,7 +14,7 @@ use Rattle.ticket_book.specs.Verdict.{IsVerdict}
 abbrev pub RunsAsked : Bool → Bool → Bool → KnobsView → Input → Input → Output → Result Status Fault → Type 0
 RunsAsked true summary true knobs =
     Runs (is_with_waits least_fault IsLeastAnswer) (lines_with least_lines) (fault_with least_fault)
-RunsAsked true summary false knobs = Runs IsLeastAnswer least_lines least_fault
+RunsAsked true summary false knobs = RunsInBlocks IsLeastAnswer least_lines least_fault
 RunsAsked false true true knobs =
     Runs (is_with_waits counted_fault (IsCounted knobs)) (lines_with (λ _. counted_lines)) (fault_with counted_fault)
 RunsAsked false true false knobs = RunsInBlocks (IsCounted knobs) (λ _. counted_lines) counted_fault

@@ -6,7 +6,7 @@ ghost use Rattle.sched_audit.specs.Run.{input_of, output_of};
 
 use crate::{
     Fault, Feed, OpenGate, Request, Sink, Sizes, Status, run_counted_in_blocks, run_counted_waits,
-    run_in_blocks, run_least, run_least_waits, run_waits,
+    run_in_blocks, run_least_in_blocks, run_least_waits, run_waits,
 };
 use std::alloc::Global;
 use std::random::RandomSource;
@@ -47,7 +47,9 @@ pub fn run_request<R: RandomSource + Threads + Wait + Sync, T: Feed, C: Feed + S
     let gate = &OpenGate;
     match (request.least, request.summary, request.waits) {
         (true, _, true) => run_least_waits(rt, alloc, trace, companion, gate, out),
-        (true, _, false) => run_least(rt, alloc, trace, companion, gate, out),
+        (true, _, false) => {
+            run_least_in_blocks(rt, alloc, trace, companion, block_sizes(rt), out)
+        }
         (false, true, true) => run_counted_waits(rt, alloc, trace, companion, knobs, gate, out),
         (false, true, false) => {
             run_counted_in_blocks(rt, alloc, trace, companion, knobs, block_sizes(rt), out)

@@ -18,3 +18,11 @@ pub enum Kept {
     /// The companion's bytes, where a text was refused.
     Companion(Vec<u8>),
 }
+
+/// What two inputs of any length came to, of which nothing is kept.
+#[derive(Debug, Drop)]
+pub struct Heard<J = Verdict> {
+    pub outcome: Outcome<J>,
+    /// Whether the companion is of version 3.
+    pub tells_charges: bool,
+}

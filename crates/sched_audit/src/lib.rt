@@ -13,14 +13,14 @@ pub use asked::{block_sizes, run_request};
 pub use audit_crew::{Gate, OpenGate};
 pub use audit_input::{Cause, Failed, Fault, Feed, FeedOf, Refused, Source};
 pub use audit_report::{
-    Counted, Finding, Judgement, Outcome, Sink, SinkOf, Status, WithWaits, least_report, report,
-    write_report,
+    Counted, Finding, Judgement, Outcome, Sink, SinkOf, Status, Streamed, WithWaits, least_report,
+    report, write_report,
 };
 pub use audit_request::{Color, Request, command_line};
-pub use blocks::{run_counted_in_blocks, run_in_blocks, streamed_counts, streamed_outcome};
+pub use blocks::{judge_in_blocks, run_counted_in_blocks, run_in_blocks, run_least_in_blocks};
 pub use counts::run_counted;
 pub use headline::{audit_texts, least_texts, run, run_least};
-pub use hearing::{Hearing, Kept};
+pub use hearing::{Heard, Hearing, Kept};
 pub use judging::{judge, run_judged};
 pub use least_places::{LeastFigures, Place, Places};
 pub use stream_audit::Sizes;

@@ -8,7 +8,8 @@ use audit_command::{
 use given_texts::Input;
 use json_audit::Told;
 use sched_audit::{
-    Counted, Fault, LeastFigures, Request, SinkOf, Verdict, WithWaits, command_line, run_request,
+    Counted, Fault, LeastFigures, Request, SinkOf, Streamed, Verdict, WithWaits, command_line,
+    run_request,
 };
 use std::alloc::Global;
 use std::io;
@@ -59,25 +60,36 @@ where
     if !request.explain && request.states.is_none() {
         return Ok(answer_alone(rt, alloc, request, trace, companion, lengths)?);
     }
-    if !keeps_record(request) {
-        return answer_explained(rt, alloc, request, trace, companion, lengths);
-    }
     match (request.least, request.summary) {
-        (true, _) => answer_kept_as::<LeastFigures, R>(
-            rt, alloc, request, trace, companion, lengths,
-        ),
-        (false, true) => answer_kept_as::<Counted, R>(
-            rt, alloc, request, trace, companion, lengths,
-        ),
-        (false, false) => answer_kept_as::<Verdict, R>(
-            rt, alloc, request, trace, companion, lengths,
-        ),
+        (true, _) => answer_as::<LeastFigures, R>(rt, alloc, request, trace, companion, lengths),
+        (false, true) => answer_as::<Counted, R>(rt, alloc, request, trace, companion, lengths),
+        (false, false) => answer_as::<Verdict, R>(rt, alloc, request, trace, companion, lengths),
+    }
+}
+
+/// Answers a request by what is told of a record, with an explanation or what else is written beside the report. The
+/// record is kept where that wants it.
+fn answer_as<J: Told + Streamed, R: Files + Print + Eprint + RandomSource + Threads + Wait + Sync>(
+    rt: &R,
+    alloc: Global,
+    request: &Request<'_>,
+    trace: Input<R::File>,
+    companion: Input<R::File>,
+    lengths: Lengths,
+) -> Result<Answer, Failure>
+where
+    R::File: Send,
+{
+    if keeps_record(request) {
+        answer_kept_as::<J, R>(rt, alloc, request, trace, companion, lengths)
+    } else {
+        answer_explained::<J, R>(rt, alloc, request, trace, companion, lengths)
     }
 }
 
 /// Whether what is asked for wants the record, beside an explanation.
 fn keeps_record(request: &Request<'_>) -> bool {
-    request.least || request.waits || request.states.is_some()
+    request.waits || request.states.is_some()
 }
 
 /// Answers a request with the record kept, and with the waits of its tasks where they are asked for.

@@ -8,18 +8,20 @@ use given_texts::Input;
 use pid_table::PidHasher;
 use recent_past::RecentPast;
 use sched_audit::{
-    Feed, Judgement, Outcome, Request, SinkOf, Sizes, Status, block_sizes, streamed_counts,
-    streamed_outcome, write_report,
+    Feed, Heard, Judgement, Request, SinkOf, Sizes, Status, Streamed, block_sizes, judge_in_blocks,
+    write_report,
 };
 use std::alloc::Global;
 use std::io;
 use std::random::RandomSource;
 use std::rt::Files;
 use std::thread::Threads;
-use stream_audit::judge_stream;
 
 /// Judges both inputs, a block at a time, writes the report, and explains it.
-pub(crate) fn answer_explained<R: Files + Print + Eprint + RandomSource + Threads + Sync>(
+pub(crate) fn answer_explained<
+    J: Streamed,
+    R: Files + Print + Eprint + RandomSource + Threads + Sync,
+>(
     rt: &R,
     alloc: Global,
     request: &Request<'_>,
@@ -33,7 +35,7 @@ where
     let sizes = sizes_of(rt, &trace);
     let mut trace = kept_input(rt, alloc, trace, lengths.trace, Keeping::Last);
     let mut companion = kept_input(rt, alloc, companion, lengths.companion, Keeping::Last);
-    explained_of(rt, alloc, request, &mut trace, &mut companion, sizes)
+    explained_of::<J, _, _, _>(rt, alloc, request, &mut trace, &mut companion, sizes)
 }
 
 /// How much of this trace and its companion is looked at at once: less than without an explanation, since a window more
@@ -49,7 +51,13 @@ fn sizes_of<R: Threads, F>(rt: &R, trace: &Input<F>) -> Sizes {
 }
 
 /// The same, of inputs of which nothing was read.
-fn explained_of<'a, R: Files + Print + RandomSource + Threads + Sync, F: Feed, C: Feed + Send>(
+fn explained_of<
+    'a,
+    J: Streamed,
+    R: Files + Print + RandomSource + Threads + Sync,
+    F: Feed,
+    C: Feed + Send,
+>(
     rt: &'a R,
     alloc: Global,
     request: &'a Request<'a>,
@@ -60,32 +68,11 @@ fn explained_of<'a, R: Files + Print + RandomSource + Threads + Sync, F: Feed, C
     requires trace { ⟦<KeepingFeed<F> as Feed>⟧.calls trace.old ≡ 0 }
     requires companion { ⟦<KeepingFeed<C> as Feed>⟧.calls companion.old ≡ 0 }
 {
-    let mut past = RecentPast::new(alloc, request.knobs, PidHasher::random(rt));
-    let heard = judge_stream(rt, alloc, trace, companion, request.knobs, sizes, &mut past)?;
+    let knobs = request.knobs;
+    let mut past = RecentPast::new(alloc, J::replayed_by(knobs), PidHasher::random(rt));
+    let heard: Heard<J> = judge_in_blocks(rt, alloc, trace, companion, knobs, sizes, &mut past)?;
     let mut texts = Texts::of(rt, alloc, request, trace, companion);
-    let tells_charges = heard.tells_charges;
-    if request.summary {
-        let outcome = streamed_counts(heard.outcome);
-        return write_explained(
-            rt,
-            alloc,
-            request,
-            &outcome,
-            tells_charges,
-            &past,
-            &mut texts,
-        );
-    }
-    let outcome = streamed_outcome(heard.outcome);
-    write_explained(
-        rt,
-        alloc,
-        request,
-        &outcome,
-        tells_charges,
-        &past,
-        &mut texts,
-    )
+    write_explained(rt, alloc, request, &heard, &past, &mut texts)
 }
 
 /// Writes the report, and an explanation behind it.
@@ -93,15 +80,14 @@ fn write_explained<J: Judgement, R: Files + Print, F: Feed, C: Feed>(
     rt: &R,
     alloc: Global,
     request: &Request<'_>,
-    outcome: &Outcome<J>,
-    tells_charges: bool,
+    heard: &Heard<J>,
     past: &RecentPast,
     texts: &mut Texts<'_, R, F, C>,
 ) -> Result<Answer, Failure> {
     let mut out = FrontOf::new(SinkOf::new(io::writer(rt)));
-    let status = write_report(alloc, outcome, tells_charges, &mut out)?;
+    let status = write_report(alloc, &heard.outcome, heard.tells_charges, &mut out)?;
     if status != Status::Yes {
-        explain(rt, alloc, request, outcome, past, texts)?;
+        explain(rt, alloc, request, &heard.outcome, past, texts)?;
     }
     Ok(out.answer(status))
 }

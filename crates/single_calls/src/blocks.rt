@@ -1,5 +1,7 @@
 use crate::endings::bad_words;
-use sched_audit::{FeedOf, SinkOf, Sizes, command_line, run_counted_in_blocks, run_in_blocks};
+use sched_audit::{
+    FeedOf, SinkOf, Sizes, command_line, run_counted_in_blocks, run_in_blocks, run_least_in_blocks,
+};
 use std::fs::File;
 use std::io;
 use std::process::ExitCode;
@@ -28,10 +30,10 @@ where
     let companion = &mut FeedOf::new(File::open(rt, request.companion)?);
     let out = &mut SinkOf::new(io::writer(rt));
     let (alloc, knobs) = (rt.alloc(), request.knobs);
-    let status = if request.summary {
-        run_counted_in_blocks(rt, alloc, trace, companion, knobs, sizes, out)
-    } else {
-        run_in_blocks(rt, alloc, trace, companion, knobs, sizes, out)
+    let status = match (request.least, request.summary) {
+        (true, _) => run_least_in_blocks(rt, alloc, trace, companion, sizes, out),
+        (false, true) => run_counted_in_blocks(rt, alloc, trace, companion, knobs, sizes, out),
+        (false, false) => run_in_blocks(rt, alloc, trace, companion, knobs, sizes, out),
     };
     Ok(ExitCode::from(match status {
         Ok(status) => status.code(),

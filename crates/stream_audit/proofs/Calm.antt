@@ -2,9 +2,9 @@
 use Rattle.std.proofs.Common.{◌≡◌, Bool, true, false, List, [], Option, Some, None, refl, sym, ap, subst, ◌∙◌}
 use Rattle.std.specs.Prelude.{IsNone, IsSome, MatchOption}
 use Rattle.cfs_model.specs.Claimed.{Claimed}
-use Rattle.cfs_model.specs.Knobs.{KnobsView}
+use Rattle.stream_audit.specs.Aim.{AimView}
 use Rattle.companion_file.specs.declared.companion.Companion.{Companion}
-use Rattle.window_audit.specs.Audit.{Beginning}
+use Rattle.stream_audit.specs.Aim.{Begun}
 use Rattle.window_joining.specs.Joining.{is_refused}
 use Rattle.stream_audit.proofs.Joined.{still}
 use Rattle.stream_audit.specs.Course.{AreJudged, IsCalm, IsSettledBy, StartStays, WereJudged}
@@ -69,28 +69,28 @@ joined_refusal (Some o) mid a b same is stays = λ refused.
 
 -- ---- what is known
 
-settled_stays : (P : Beginning → List Claimed → Judge → Type 0) (knobs later : KnobsView)
-    (old new : Option JoinedEvents) (handed : List Claimed) (judge : Option Judge) → later ≡ knobs
-    → StartStays old new → IsSettledBy P knobs old handed judge → IsSettledBy P later new handed judge
-settled_stays P knobs later None None handed judge same starts settled = settled
-settled_stays P knobs later None (Some b) handed None same starts settled = settled.0
-settled_stays P knobs later None (Some b) handed (Some j) same starts settled = absurd (let e = settled.1 in cc)
-settled_stays P knobs later (Some a) None handed judge same starts settled = absurd starts
-settled_stays P knobs later (Some a) (Some b) handed judge same starts settled =
-    subst (λ (k : KnobsView). MatchOption judge (handed ≡ []) (λ j. P (begun k b.start) handed j)) (sym same)
-    (subst (λ (s : Companion). MatchOption judge (handed ≡ []) (λ j. P (begun knobs s) handed j)) (sym starts) settled)
+settled_stays : (P : Begun → List Claimed → Judge → Type 0) (aim later : AimView)
+    (old new : Option JoinedEvents) (handed : List Claimed) (judge : Option Judge) → later ≡ aim
+    → StartStays old new → IsSettledBy P aim old handed judge → IsSettledBy P later new handed judge
+settled_stays P aim later None None handed judge same starts settled = settled
+settled_stays P aim later None (Some b) handed None same starts settled = settled.0
+settled_stays P aim later None (Some b) handed (Some j) same starts settled = absurd (let e = settled.1 in cc)
+settled_stays P aim later (Some a) None handed judge same starts settled = absurd starts
+settled_stays P aim later (Some a) (Some b) handed judge same starts settled =
+    subst (λ (k : AimView). MatchOption judge (handed ≡ []) (λ j. P (begun k b.start) handed j)) (sym same)
+    (subst (λ (s : Companion). MatchOption judge (handed ≡ []) (λ j. P (begun aim s) handed j)) (sym starts) settled)
 
-pub judged_stays : (old new : Course) (handed : List Claimed) (judge : Option Judge) → new.knobs ≡ old.knobs
+pub judged_stays : (old new : Course) (handed : List Claimed) (judge : Option Judge) → new.aim ≡ old.aim
     → (IsCalm new → IsCalm old) → StartStays old.joined new.joined → AreJudged old handed judge
     → AreJudged new handed judge
 judged_stays old new handed judge same calm starts judged now =
-    settled_stays IsAwaiting old.knobs new.knobs old.joined new.joined handed judge same starts (judged (calm now))
+    settled_stays IsAwaiting old.aim new.aim old.joined new.joined handed judge same starts (judged (calm now))
 
-pub known_stays : (old new : Course) (handed : List Claimed) (judge : Option Judge) → new.knobs ≡ old.knobs
+pub known_stays : (old new : Course) (handed : List Claimed) (judge : Option Judge) → new.aim ≡ old.aim
     → (IsCalm new → IsCalm old) → StartStays old.joined new.joined → WereJudged old handed judge
     → WereJudged new handed judge
 known_stays old new handed judge same calm starts judged now =
-    settled_stays (λ of handed j. IsKnownOf of handed j.progress) old.knobs new.knobs old.joined new.joined handed judge
+    settled_stays (λ of handed j. IsKnownOf of handed j.progress) old.aim new.aim old.joined new.joined handed judge
     same starts (judged (calm now))
 
 -- where it isn't told otherwise nothing was found
@@ -99,13 +99,13 @@ calm_told A true found calm = refl
 calm_told A false found calm = absurd (found refl calm)
 
 -- of each that was handed on something else follows
-pub settled_as : (P Q : Beginning → List Claimed → Judge → Type 0) (knobs : KnobsView) (joined : Option JoinedEvents)
+pub settled_as : (P Q : Begun → List Claimed → Judge → Type 0) (aim : AimView) (joined : Option JoinedEvents)
     (handed : List Claimed) (old new : Option Judge)
-    → MatchOption old (IsNone new) (λ a. MatchOption new ⊥ (λ b. (of : Beginning) → P of handed a → Q of handed b))
-    → IsSettledBy P knobs joined handed old → IsSettledBy Q knobs joined handed new
-settled_as P Q knobs None handed None new follows settled = (settled.0, follows)
-settled_as P Q knobs None handed (Some a) new follows settled = absurd (let e = settled.1 in cc)
-settled_as P Q knobs (Some j) handed None None follows settled = settled
-settled_as P Q knobs (Some j) handed None (Some b) follows settled = absurd (let e = follows in cc)
-settled_as P Q knobs (Some j) handed (Some a) None follows settled = absurd follows
-settled_as P Q knobs (Some j) handed (Some a) (Some b) follows settled = follows (begun knobs j.start) settled
+    → MatchOption old (IsNone new) (λ a. MatchOption new ⊥ (λ b. (of : Begun) → P of handed a → Q of handed b))
+    → IsSettledBy P aim joined handed old → IsSettledBy Q aim joined handed new
+settled_as P Q aim None handed None new follows settled = (settled.0, follows)
+settled_as P Q aim None handed (Some a) new follows settled = absurd (let e = settled.1 in cc)
+settled_as P Q aim (Some j) handed None None follows settled = settled
+settled_as P Q aim (Some j) handed None (Some b) follows settled = absurd (let e = follows in cc)
+settled_as P Q aim (Some j) handed (Some a) None follows settled = absurd follows
+settled_as P Q aim (Some j) handed (Some a) (Some b) follows settled = follows (begun aim j.start) settled

@@ -3,7 +3,7 @@
 use Rattle.std.proofs.Common.{◌≡◌, ℕ, true, List, [], Option, Some, None, refl, sym, subst, ◌∙◌}
 use Rattle.std.specs.Prelude.{MatchOption, IsNone}
 use Rattle.cfs_model.specs.Claimed.{Claimed}
-use Rattle.cfs_model.specs.Knobs.{KnobsView}
+use Rattle.stream_audit.specs.Aim.{AimView}
 use Rattle.cfs_model.specs.declared.act.Entry.{Entry}
 use Rattle.cfs_model.specs.declared.charge_line.ChargeLine.{ChargeLine}
 use Rattle.cfs_model.specs.declared.claim.Claim.{Claim}
@@ -34,14 +34,14 @@ good_by None lines count held said edge read all = refl
 good_by (Some b) lines count held said edge read all = let wrong = all (summed []) read in absurd cc
 
 -- this is all, and the audit comes to an end
-pub comes_last : (knobs : KnobsView) (gave left : Option (List ℕ)) (course : Course) (said : Said)
+pub comes_last : (aim : AimView) (gave left : Option (List ℕ)) (course : Course) (said : Said)
     (events : List Entry) (handed : List Claimed) (joined : JoinedEvents)
-    → IsCourseOf knobs gave left course said events handed → AreAllEvents events
+    → IsCourseOf aim gave left course said events handed → AreAllEvents events
     → IsNone course.companion.reader.bad → (amid : IsAmidJoining course said events handed joined)
     → IsLast (with_all_said amid.start said) events handed course.companion.reader.draft.claims
     course.companion.reader.draft.nices course.companion.reader.draft.charges joined
-comes_last knobs gave left course said events handed joined so all none amid =
-    let asks = asks_for knobs gave left course said events handed joined so none amid in
+comes_last aim gave left course said events handed joined so all none amid =
+    let asks = asks_for aim gave left course said events handed joined so none amid in
     record {
       so_far = amid.so_far;
       companion = asks.companion;
@@ -70,38 +70,38 @@ ClosesWell reader = (lines : List (List ℕ)) (said : Said) (edge : ℕ) → Has
     → AreCountable lines → (has_all_floors said ≡ true)
     × ((start : CompanionView) → IsStartOf said start → IsRead lines (with_all_said start said))
 
-pub ends_good : (knobs : KnobsView) (course : Course) (text : List ℕ) (events : List Entry) (judge : Option Judge)
-    → IsWholeCourse knobs course text events judge → ClosesWell course.companion.reader
+pub ends_good : (aim : AimView) (course : Course) (text : List ℕ) (events : List Entry) (judge : Option Judge)
+    → IsWholeCourse aim course text events judge → ClosesWell course.companion.reader
     → IsNone course.companion.reader.bad
-ends_good knobs course text events judge w closed =
+ends_good aim course text events judge w closed =
     let reader = course.companion.reader in
     let at = w.so_far.stands in
     good_by reader.bad (lines_of at.done) reader.count reader.draft w.said w.so_far.edge at.read
     (λ said read. (closed (lines_of at.done) said w.so_far.edge read at.few).0)
 
-pub ends_so : (knobs : KnobsView) (first course : Course) (text : List ℕ) (events : List Entry) (judge : Option Judge)
-    (joined : JoinedEvents) (w : IsWholeCourse knobs first text events judge) → ClosesWell first.companion.reader
-    → IsCourseOf knobs w.gave w.left course w.said events w.handed → course.companion ≡ first.companion
+pub ends_so : (aim : AimView) (first course : Course) (text : List ℕ) (events : List Entry) (judge : Option Judge)
+    (joined : JoinedEvents) (w : IsWholeCourse aim first text events judge) → ClosesWell first.companion.reader
+    → IsCourseOf aim w.gave w.left course w.said events w.handed → course.companion ≡ first.companion
     → course.joined ≡ Some joined → EndsSo course text events w.handed joined
-ends_so knobs first course text events judge joined w closed so same is =
+ends_so aim first course text events judge joined w closed so same is =
     let at = w.so_far.stands in
     let lines = lines_of at.done in
-    let good = ends_good knobs first text events judge w closed in
+    let good = ends_good aim first text events judge w closed in
     let none = subst (λ (input : CompanionInput). IsNone input.reader.bad) (sym same) good in
-    let amid = amid_of knobs w.gave w.left course w.said events w.handed joined so none is in
+    let amid = amid_of aim w.gave w.left course w.said events w.handed joined so none is in
     record {
       start = amid.start;
       said = w.said;
-      last = comes_last knobs w.gave w.left course w.said events w.handed joined so w.all none amid;
+      last = comes_last aim w.gave w.left course w.said events w.handed joined so w.all none amid;
       answer = subst (λ (bytes : List ℕ). IsRead (lines_of bytes) (with_all_said amid.start w.said)) w.is_text
           ((closed lines w.said w.so_far.edge at.read at.few).1 amid.start amid.starts);
       good = none;
     }
 
 -- its audit has begun
-pub ends_begun : (knobs : KnobsView) (course : Course) (text : List ℕ) (events : List Entry) (judge : Option Judge)
-    (w : IsWholeCourse knobs course text events judge) → ClosesWell course.companion.reader → ¬ HasNoStart w.said
-ends_begun knobs course text events judge w closed no_start =
+pub ends_begun : (aim : AimView) (course : Course) (text : List ℕ) (events : List Entry) (judge : Option Judge)
+    (w : IsWholeCourse aim course text events judge) → ClosesWell course.companion.reader → ¬ HasNoStart w.said
+ends_begun aim course text events judge w closed no_start =
     let at = w.so_far.stands in
     let whole = (closed (lines_of at.done) w.said w.so_far.edge at.read at.few).0 in
     let wrong = sym whole ∙ no_start.missing in absurd cc

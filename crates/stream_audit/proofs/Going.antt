@@ -3,7 +3,7 @@ use Rattle.std.proofs.Common.{◌≡◌, ℕ, ◌<◌, ◌≤◌, Bool, true, fa
 use Rattle.std.proofs.Common.{refl, sym, subst, ◌∙◌, inl, inr, arith}
 use Rattle.std.specs.Prelude.{MatchOption, IsNone, OnOk, Result, is_some}
 use Rattle.cfs_model.specs.Claimed.{Claimed}
-use Rattle.cfs_model.specs.Knobs.{KnobsView}
+use Rattle.stream_audit.specs.Aim.{AimView}
 use Rattle.cfs_model.specs.Limits.{no_line}
 use Rattle.cfs_model.specs.declared.act.Entry.{Entry}
 use Rattle.cfs_model.specs.declared.charge_line.ChargeLine.{ChargeLine}
@@ -78,12 +78,12 @@ both_stay N M P Q None none some holds = none holds
 both_stay N M P Q (Some a) none some holds = some a holds
 
 -- the companion was read on
-pub goes_with : (knobs : KnobsView) (gave before left : Option (List ℕ)) (course later : Course) (said : Said)
-    (events : List Entry) (handed : List Claimed) (so : IsCourseOf knobs gave before course said events handed)
+pub goes_with : (aim : AimView) (gave before left : Option (List ℕ)) (course later : Course) (said : Said)
+    (events : List Entry) (handed : List Claimed) (so : IsCourseOf aim gave before course said events handed)
     → later.joined ≡ course.joined
-    → later.knobs ≡ course.knobs → (on : SaysOn gave left course.companion later.companion said so.edge)
-    → IsCourseOf knobs gave left later on.after events handed
-goes_with knobs gave before left course later said events handed so same settings on = record {
+    → later.aim ≡ course.aim → (on : SaysOn gave left course.companion later.companion said so.edge)
+    → IsCourseOf aim gave left later on.after events handed
+goes_with aim gave before left course later said events handed so same settings on = record {
   settings = settings ∙ so.settings;
   edge = so.edge;
   passed = so.passed;
@@ -121,15 +121,15 @@ amid_as course later said events handed joined runs amid = record {
   trace = amid.trace;
 }
 
-pub forgets : (knobs : KnobsView) (gave left : Option (List ℕ)) (course later : Course) (said : Said)
+pub forgets : (aim : AimView) (gave left : Option (List ℕ)) (course later : Course) (said : Said)
     (events : List Entry) (handed : List Claimed) (line : ℕ)
-    (so : IsCourseOf knobs gave left course said events handed) → line ≡ edge_of events
-    → later.joined ≡ course.joined → later.knobs ≡ course.knobs
+    (so : IsCourseOf aim gave left course said events handed) → line ≡ edge_of events
+    → later.joined ≡ course.joined → later.aim ≡ course.aim
     → later.companion.blocks ≡ course.companion.blocks → later.companion.goes_on ≡ course.companion.goes_on
     → ((lines : List (List ℕ)) (s : Said) (edge : ℕ) → HasReadCompanion course.companion.reader lines s edge
     → edge ≤ line → HasReadCompanion later.companion.reader lines s line)
-    → IsCourseOf knobs gave left later said events handed
-forgets knobs gave left course later said events handed line so is same settings blocks runs let_go =
+    → IsCourseOf aim gave left later said events handed
+forgets aim gave left course later said events handed line so is same settings blocks runs let_go =
     let at = so.stands in
     let up = subst (λ n. so.edge ≤ n) (sym is) so.passed in
     let read = let_go (lines_of at.done) said so.edge at.read up in
@@ -158,14 +158,14 @@ forgets knobs gave left course later said events handed line so is same settings
     }
 
 -- and what was found stays found
-pub forgets_calm : (knobs : KnobsView) (gave left : Option (List ℕ)) (course later : Course) (said : Said)
+pub forgets_calm : (aim : AimView) (gave left : Option (List ℕ)) (course later : Course) (said : Said)
     (events : List Entry) (handed : List Claimed) (line : ℕ)
-    (so : IsCourseOf knobs gave left course said events handed) → line ≡ edge_of events
+    (so : IsCourseOf aim gave left course said events handed) → line ≡ edge_of events
     → later.joined ≡ course.joined
     → ((lines : List (List ℕ)) (s : Said) (edge : ℕ) → HasReadCompanion course.companion.reader lines s edge
     → edge ≤ line → HasReadCompanion later.companion.reader lines s line)
     → IsCalm later → IsCalm course
-forgets_calm knobs gave left course later said events handed line so is same let_go =
+forgets_calm aim gave left course later said events handed line so is same let_go =
     let at = so.stands in
     let up = subst (λ n. so.edge ≤ n) (sym is) so.passed in
     let read = let_go (lines_of at.done) said so.edge at.read up in
@@ -183,11 +183,11 @@ held_of edge said held start h = record {
   charges = record { gone = h.charges.gone; parts = h.charges.parts; passed = h.charges.passed };
 }
 
-pub amid_of : (knobs : KnobsView) (gave left : Option (List ℕ)) (course : Course) (said : Said) (events : List Entry)
-    (handed : List Claimed) (joined : JoinedEvents) → IsCourseOf knobs gave left course said events handed
+pub amid_of : (aim : AimView) (gave left : Option (List ℕ)) (course : Course) (said : Said) (events : List Entry)
+    (handed : List Claimed) (joined : JoinedEvents) → IsCourseOf aim gave left course said events handed
     → IsNone course.companion.reader.bad → course.joined ≡ Some joined
     → IsAmidJoining course said events handed joined
-amid_of knobs gave left course said events handed joined so none is =
+amid_of aim gave left course said events handed joined so none is =
     subst (λ (o : Option JoinedEvents). MatchOption o (IsNotBegun course said events handed)
     (λ j. IsAmidJoining course said events handed j)) is (so.audited none)
 
@@ -199,11 +199,11 @@ pub record AsksFor (course : Course) (said : Said) (events : List Entry) (joined
     pub held : IsHeld joined.joining.line (with_all_said start said) course.companion.reader.draft.claims
         course.companion.reader.draft.nices course.companion.reader.draft.charges
 
-pub asks_for : (knobs : KnobsView) (gave left : Option (List ℕ)) (course : Course) (said : Said) (events : List Entry)
-    (handed : List Claimed) (joined : JoinedEvents) → IsCourseOf knobs gave left course said events handed
+pub asks_for : (aim : AimView) (gave left : Option (List ℕ)) (course : Course) (said : Said) (events : List Entry)
+    (handed : List Claimed) (joined : JoinedEvents) → IsCourseOf aim gave left course said events handed
     → IsNone course.companion.reader.bad
     → (amid : IsAmidJoining course said events handed joined) → AsksFor course said events joined amid.start
-asks_for knobs gave left course said events handed joined so none amid =
+asks_for aim gave left course said events handed joined so none amid =
     let reader = course.companion.reader in
     let c = with_all_said amid.start said in
     let read = where_none _ reader.bad none so.stands.read in
@@ -215,15 +215,15 @@ asks_for knobs gave left course said events handed joined so none amid =
     }
 
 -- a window's events come next
-pub comes_next : (knobs : KnobsView) (gave left : Option (List ℕ)) (course : Course) (said : Said)
+pub comes_next : (aim : AimView) (gave left : Option (List ℕ)) (course : Course) (said : Said)
     (before : List Entry) (handed : List Claimed) (events : List Entry) (joined : JoinedEvents)
-    → IsCourseOf knobs gave left course said before handed
+    → IsCourseOf aim gave left course said before handed
     → AreEventsNext before events → IsNone course.companion.reader.bad
     → (amid : IsAmidJoining course said before handed joined)
     → Comes (with_all_said amid.start said) before handed events course.companion.reader.draft.claims
     course.companion.reader.draft.nices course.companion.reader.draft.charges joined
-comes_next knobs gave left course said before handed events joined so next none amid =
-    let asks = asks_for knobs gave left course said before handed joined so none amid in
+comes_next aim gave left course said before handed events joined so next none amid =
+    let asks = asks_for aim gave left course said before handed joined so none amid in
     record {
       so_far = amid.so_far;
       next = record { companion = asks.companion; trace = next.in_order; few = next.few };
@@ -237,14 +237,14 @@ still_passed edge before events next passed =
     let up = edge_rises before events next.in_order in omega (arith, up, passed)
 
 -- they were joined
-pub goes_through : (knobs : KnobsView) (gave left : Option (List ℕ)) (course : Course) (said : Said)
+pub goes_through : (aim : AimView) (gave left : Option (List ℕ)) (course : Course) (said : Said)
     (before : List Entry) (handed : List Claimed) (events : List Entry) (joined new : JoinedEvents)
-    (so : IsCourseOf knobs gave left course said before handed)
+    (so : IsCourseOf aim gave left course said before handed)
     → AreEventsNext before events → IsPast (edge_of (before ++ events)) said course.companion
     → (amid : IsAmidJoining course said before handed joined)
     → AreJoinedSoFar (with_all_said amid.start said) (before ++ events) handed new
-    → IsCourseOf knobs gave left (record course { joined = Some new }) said (before ++ events) handed
-goes_through knobs gave left course said before handed events joined new so next past amid went = record {
+    → IsCourseOf aim gave left (record course { joined = Some new }) said (before ++ events) handed
+goes_through aim gave left course said before handed events joined new so next past amid went = record {
   settings = so.settings;
   edge = so.edge;
   passed = still_passed so.edge before events next so.passed;
@@ -259,11 +259,11 @@ goes_through knobs gave left course said before handed events joined new so next
 }
 
 -- of a companion that is refused nothing is joined
-pub bad_passes : (knobs : KnobsView) (gave left : Option (List ℕ)) (course : Course) (said : Said)
+pub bad_passes : (aim : AimView) (gave left : Option (List ℕ)) (course : Course) (said : Said)
     (before : List Entry) (handed : List Claimed) (events : List Entry)
-    (so : IsCourseOf knobs gave left course said before handed) → AreEventsNext before events
-    → is_some course.companion.reader.bad ≡ true → IsCourseOf knobs gave left course said (before ++ events) handed
-bad_passes knobs gave left course said before handed events so next bad = record {
+    (so : IsCourseOf aim gave left course said before handed) → AreEventsNext before events
+    → is_some course.companion.reader.bad ≡ true → IsCourseOf aim gave left course said (before ++ events) handed
+bad_passes aim gave left course said before handed events so next bad = record {
   settings = so.settings;
   edge = so.edge;
   passed = still_passed so.edge before events next so.passed;
@@ -278,21 +278,21 @@ none_past line said input no_start (inr reached) =
     let wrong = sym (reached_begun said line reached) ∙ no_start.early in absurd cc
 
 -- where joining hasn't begun nothing was handed on
-none_handed : (knobs : KnobsView) (gave left : Option (List ℕ)) (course : Course) (said : Said) (events : List Entry)
-    (handed : List Claimed) → IsCourseOf knobs gave left course said events handed → course.joined ≡ None
+none_handed : (aim : AimView) (gave left : Option (List ℕ)) (course : Course) (said : Said) (events : List Entry)
+    (handed : List Claimed) → IsCourseOf aim gave left course said events handed → course.joined ≡ None
     → IsNone course.companion.reader.bad → handed ≡ []
-none_handed knobs gave left course said events handed so is none =
+none_handed aim gave left course said events handed so is none =
     (subst (λ (o : Option JoinedEvents). MatchOption o (IsNotBegun course said events handed)
     (λ j. IsAmidJoining course said events handed j)) is (so.audited none)).0
 
 -- nor of one without a start
-pub none_passes : (knobs : KnobsView) (gave left : Option (List ℕ)) (course : Course) (said : Said)
+pub none_passes : (aim : AimView) (gave left : Option (List ℕ)) (course : Course) (said : Said)
     (before : List Entry) (handed : List Claimed) (events : List Entry)
-    (so : IsCourseOf knobs gave left course said before handed) → AreEventsNext before events
+    (so : IsCourseOf aim gave left course said before handed) → AreEventsNext before events
     → IsPast (edge_of (before ++ events)) said course.companion → course.joined ≡ None
     → (IsNone course.companion.reader.bad → HasNoStart said)
-    → IsCourseOf knobs gave left course said (before ++ events) handed
-none_passes knobs gave left course said before handed events so next past is no_start = record {
+    → IsCourseOf aim gave left course said (before ++ events) handed
+none_passes aim gave left course said before handed events so next past is no_start = record {
   settings = so.settings;
   edge = so.edge;
   passed = still_passed so.edge before events next so.passed;
@@ -300,7 +300,7 @@ none_passes knobs gave left course said before handed events so next past is no_
   audited = λ none. subst (λ (o : Option JoinedEvents). MatchOption o
       (IsNotBegun course said (before ++ events) handed)
       (λ j. IsAmidJoining course said (before ++ events) handed j)) (sym is) (
-        none_handed knobs gave left course said before handed so is none,
+        none_handed aim gave left course said before handed so is none,
         inr (none_past (edge_of (before ++ events)) said course.companion (no_start none) (past none), no_start none),
       );
 }
@@ -332,30 +332,30 @@ on_both A B C (Ok x) follows one other = follows one other
 on_both A B C (Err x) follows one other = other
 
 -- the companion was read past the events that come next
-pub made_ready : (knobs : KnobsView) (gave before left : Option (List ℕ)) (course later : Course) (said : Said)
+pub made_ready : (aim : AimView) (gave before left : Option (List ℕ)) (course later : Course) (said : Said)
     (front : List Entry) (handed : List Claimed) (events : List Entry)
-    (so : IsCourseOf knobs gave before course said front handed)
+    (so : IsCourseOf aim gave before course said front handed)
     → (0 < length events → AreEventsNext front events)
-    → later.joined ≡ course.joined → later.knobs ≡ course.knobs
+    → later.joined ≡ course.joined → later.aim ≡ course.aim
     → (on : SaysOn gave left course.companion later.companion said so.edge)
     → (0 < length events → IsPast (edge_of (front ++ events)) on.after later.companion)
-    → IsReadyFor knobs gave left later front handed events
-made_ready knobs gave before left course later said front handed events so next same settings on past = record {
+    → IsReadyFor aim gave left later front handed events
+made_ready aim gave before left course later said front handed events so next same settings on past = record {
   said = on.after;
-  so_far = goes_with knobs gave before left course later said front handed so same settings on;
+  so_far = goes_with aim gave before left course later said front handed so same settings on;
   next = next;
   past = past;
 }
 
 -- what is let go leaves how far the companion was read
-pub still_past : (knobs : KnobsView) (gave left : Option (List ℕ)) (course later : Course) (said : Said)
+pub still_past : (aim : AimView) (gave left : Option (List ℕ)) (course later : Course) (said : Said)
     (events : List Entry) (handed : List Claimed) (line edge : ℕ)
-    (so : IsCourseOf knobs gave left course said events handed) → line ≡ edge_of events
+    (so : IsCourseOf aim gave left course said events handed) → line ≡ edge_of events
     → later.companion.goes_on ≡ course.companion.goes_on
     → ((lines : List (List ℕ)) (s : Said) (e : ℕ) → HasReadCompanion course.companion.reader lines s e
     → e ≤ line → HasReadCompanion later.companion.reader lines s line)
     → IsPast edge said course.companion → IsPast edge said later.companion
-still_past knobs gave left course later said events handed line edge so is runs let_go past none =
+still_past aim gave left course later said events handed line edge so is runs let_go past none =
     let at = so.stands in
     let up = subst (λ n. so.edge ≤ n) (sym is) so.passed in
     let read = let_go (lines_of at.done) said so.edge at.read up in
@@ -365,10 +365,10 @@ still_past knobs gave left course later said events handed line edge so is runs 
 
 -- ---- the beginning
 
-pub not_begun : (knobs : KnobsView) (gave left : Option (List ℕ)) (course : Course)
-    → IsCompanionAt gave left course.companion (summed []) 0 → course.knobs ≡ knobs → course.joined ≡ None
-    → IsCourseOf knobs gave left course (summed []) [] []
-not_begun knobs gave left course at settings is = record {
+pub not_begun : (aim : AimView) (gave left : Option (List ℕ)) (course : Course)
+    → IsCompanionAt gave left course.companion (summed []) 0 → course.aim ≡ aim → course.joined ≡ None
+    → IsCourseOf aim gave left course (summed []) [] []
+not_begun aim gave left course at settings is = record {
   settings = settings;
   edge = 0;
   passed = omega arith;
@@ -410,15 +410,15 @@ first_joined course said events handed start joined lines good of past made (emp
     let wrong = sym of.whole ∙ p.1.missing in absurd cc
 
 -- joining begins with a start of which nothing more can be said
-pub begins : (knobs : KnobsView) (gave left : Option (List ℕ)) (course : Course) (said : Said) (events : List Entry)
+pub begins : (aim : AimView) (gave left : Option (List ℕ)) (course : Course) (said : Said) (events : List Entry)
     (handed : List Claimed) (start : Companion) (joined : JoinedEvents)
-    (so : IsCourseOf knobs gave left course said events handed)
+    (so : IsCourseOf aim gave left course said events handed)
     → IsPast no_line said course.companion → is_some course.joined ≡ false
     → (IsNone course.companion.reader.bad → IsStartOf said (companion_view start))
     → ((c : CompanionView) → IsHeadOf (companion_view start) c → StandBehind no_line c
     → AreJoinedSoFar c [] [] joined)
-    → IsCourseOf knobs gave left (record course { joined = Some joined }) said events handed
-begins knobs gave left course said events handed start joined so past is of made = record {
+    → IsCourseOf aim gave left (record course { joined = Some joined }) said events handed
+begins aim gave left course said events handed start joined so past is of made = record {
   settings = so.settings;
   edge = so.edge;
   passed = so.passed;

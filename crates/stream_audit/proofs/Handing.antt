@@ -2,7 +2,7 @@
 use Rattle.std.proofs.Common.{◌≡◌, ℕ, false, List, [], ◌++◌, Option, Some, sym, ap, subst, ◌∙◌, append-nil}
 use Rattle.std.specs.Prelude.{MatchOption}
 use Rattle.cfs_model.specs.Claimed.{Claimed}
-use Rattle.cfs_model.specs.Knobs.{KnobsView}
+use Rattle.stream_audit.specs.Aim.{AimView}
 use Rattle.cfs_model.specs.declared.act.Entry.{Entry}
 use Rattle.companion_file.specs.Companion.{CompanionView}
 use Rattle.companion_file.specs.Earlier.{Said}
@@ -25,8 +25,8 @@ abbrev pub Together : Type 0
 Together = (joining : Joining) (c : CompanionView) (events : List Entry) → HasJoined joining c events
     → is_refused joining ≡ false → GoTogetherSoFar events c
 
-module _ (knobs : KnobsView) (gave left : Option (List ℕ)) (course : Course) (said : Said) (events : List Entry)
-    (handed : List Claimed) (joined new : JoinedEvents) (so : IsCourseOf knobs gave left course said events handed)
+module _ (aim : AimView) (gave left : Option (List ℕ)) (course : Course) (said : Said) (events : List Entry)
+    (handed : List Claimed) (joined new : JoinedEvents) (so : IsCourseOf aim gave left course said events handed)
     (is : course.joined ≡ Some joined) (starts : new.start ≡ joined.start) (joining : new.joining ≡ joined.joining)
     (emptied : window_view new.window ≡ []) where
   abbrev pub later : Course
@@ -50,13 +50,13 @@ module _ (knobs : KnobsView) (gave left : Option (List ℕ)) (course : Course) (
     trace = amid.trace;
   }
 
-  pub course_after : IsCourseOf knobs gave left later said events after
+  pub course_after : IsCourseOf aim gave left later said events after
   course_after = record {
     settings = so.settings;
     edge = so.edge;
     passed = so.passed;
     stands = so.stands;
-    audited = λ none. amid_after (amid_of knobs gave left course said events handed joined so none is);
+    audited = λ none. amid_after (amid_of aim gave left course said events handed joined so none is);
   }
 
   calm_before : IsCalm later → IsCalm course
@@ -68,15 +68,15 @@ module _ (knobs : KnobsView) (gave left : Option (List ℕ)) (course : Course) (
 
   pub judged_after : Together → (old now : Judge) → now.progress ≡ old.progress
       → window_view now.window ≡ window_view joined.window → window_view old.window ≡ []
-      → (IsCalm course → IsAwaiting (begun course.knobs joined.start) handed old)
+      → (IsCalm course → IsAwaiting (begun course.aim joined.start) handed old)
       → AreJudged later after (Some now)
   judged_after together old now same given none awaiting = λ calm.
       let before = calm_before calm in
-      let amid = amid_of knobs gave left course said events handed joined so before.0 is in
+      let amid = amid_of aim gave left course said events handed joined so before.0 is in
       let c = with_all_said amid.start said in
-      let asks = asks_for knobs gave left course said events handed joined so before.0 amid in
+      let asks = asks_for aim gave left course said events handed joined so before.0 amid in
       let refused : is_refused joined.joining ≡ false =
       subst (λ (j : Joining). is_refused j ≡ false) joining calm.1 in
-      subst (λ (s : Companion). IsAwaiting (begun course.knobs s) after now) (sym starts)
-      (awaits c events handed joined course.knobs old now asks.companion amid.trace.in_order amid.trace.few
+      subst (λ (s : Companion). IsAwaiting (begun course.aim s) after now) (sym starts)
+      (awaits c events handed joined course.aim old now asks.companion amid.trace.in_order amid.trace.few
       (together joined.joining c events amid.so_far.joining refused) amid.so_far (awaiting before) none given same)

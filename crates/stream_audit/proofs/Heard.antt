@@ -8,7 +8,7 @@ use Rattle.audit_input.specs.Known.{Agrees}
 use Rattle.audit_input.specs.Refusals.{companion_refusal, join_refusal, trace_refusal}
 use Rattle.audit_input.specs.Texts.{TellsCharges}
 use Rattle.cfs_model.specs.Claimed.{Claimed}
-use Rattle.cfs_model.specs.Knobs.{KnobsView}
+use Rattle.stream_audit.specs.Aim.{AimView}
 use Rattle.cfs_model.specs.declared.act.Entry.{Entry}
 use Rattle.companion_file.specs.declared.fault.CompanionFault.{CompanionFault}
 use Rattle.companion_file.specs.declared.fault.CompanionFault.TheVariants as companion_faults
@@ -26,7 +26,7 @@ use Rattle.sched_record.specs.declared.cause.TraceCause.{TraceCause}
 use Rattle.sched_record.specs.declared.cause.TraceFault.{TraceFault}
 use Rattle.sched_record.specs.declared.cause.TraceFault.TheVariants as trace_faults
 use Rattle.sched_record.specs.declared.joining.JoinFault.{JoinFault}
-use Rattle.ticket_book.specs.declared.verdict.Verdict.{Verdict}
+use Rattle.least_places.specs.declared.found.Finding.{Finding}
 use Rattle.text_parts.specs.Lines.{lines_of}
 use Rattle.window_joining.specs.Joining.{edge_of}
 use Rattle.stream_audit.proofs.EventLines.{both_parts}
@@ -104,7 +104,7 @@ module _ (one : OneTrace) (trace : EntryReader) (course : Course) (judge : Optio
   good : IsNone trace.bad
   good = none_bad one bytes (both.events ++ entries_of trace) both.events trace trace.bad ends both.has_read
 
-  pub whole_course : IsWholeCourse course.knobs course text both.events judge
+  pub whole_course : IsWholeCourse course.aim course text both.events judge
   whole_course = both.joined good
 
   pub trace_told : TraceAnswer bytes (Ok both.events)
@@ -118,27 +118,27 @@ pub trace_refused : (bytes text : List ℕ) (events : List Entry) (fault : Trace
 trace_refused bytes text events (trace_faults.Text line cause) first = (cause, first, refl)
 trace_refused bytes text events trace_faults.Memory none = absurd none
 
-pub companion_refused : (knobs : KnobsView) (bytes text : List ℕ) (events : List Entry) (fault : CompanionFault)
-    → TraceAnswer bytes (Ok events) → IsClosingOf knobs text events (closings.Refused fault)
+pub companion_refused : (aim : AimView) (bytes text : List ℕ) (events : List Entry) (fault : CompanionFault)
+    → TraceAnswer bytes (Ok events) → IsClosingOf aim text events (closings.Refused fault)
     → IsRefusalOf bytes text (companion_refusal fault)
-companion_refused knobs bytes text events (companion_faults.Text line cause) are first =
+companion_refused aim bytes text events (companion_faults.Text line cause) are first =
     (events, cause, are, first, refl)
-companion_refused knobs bytes text events companion_faults.Memory are none = absurd none
+companion_refused aim bytes text events companion_faults.Memory are none = absurd none
 
-pub join_refused : (knobs : KnobsView) (bytes text : List ℕ) (events : List Entry) (fault : JoinFault)
-    → TraceAnswer bytes (Ok events) → IsClosingOf knobs text events (closings.Joined (endings.Apart fault))
+pub join_refused : (aim : AimView) (bytes text : List ℕ) (events : List Entry) (fault : JoinFault)
+    → TraceAnswer bytes (Ok events) → IsClosingOf aim text events (closings.Joined (endings.Apart fault))
     → IsRefusalOf bytes text (join_refusal fault)
-join_refused knobs bytes text events fault are closing = record {
+join_refused aim bytes text events fault are closing = record {
   events = events;
   start = closing.0;
   are_read = record { trace_means = are; companion_means = closing.1 };
   why = (fault.cause, closing.2, refl);
 }
 
-pub judged : (knobs : KnobsView) (bytes text : List ℕ) (events : List Entry) (verdict : Verdict)
-    → TraceAnswer bytes (Ok events) → IsClosingOf knobs text events (closings.Joined (endings.Judged verdict))
-    → IsOutcome knobs bytes text (outcomes.Judged verdict)
-judged knobs bytes text events verdict are closing = (
+pub judged : (aim : AimView) (bytes text : List ℕ) (events : List Entry) (finding : Finding)
+    → TraceAnswer bytes (Ok events) → IsClosingOf aim text events (closings.Joined (endings.Judged finding))
+    → IsOutcome aim bytes text (outcomes.Judged finding)
+judged aim bytes text events finding are closing = (
   joined_record events closing.0,
   record {
     events = events;
@@ -151,12 +151,12 @@ judged knobs bytes text events verdict are closing = (
 
 -- ---- more is read of the trace
 
-unfoldable pub pending_on : (knobs : KnobsView) (gave left : Option (List ℕ)) (bytes more : List ℕ)
+unfoldable pub pending_on : (aim : AimView) (gave left : Option (List ℕ)) (bytes more : List ℕ)
     (old new : EntryReader) (course : Course) (handed : List Claimed) (events : List Entry)
     → lines_of (bytes ++ more) ≡ lines_of bytes ++ lines_of more → ReadsEntries old new (lines_of more)
-    → IsPending knobs gave left bytes old course handed events
-    → IsPending knobs gave left (bytes ++ more) new course handed events
-pending_on knobs gave left bytes more old new course handed events lines read pending = record {
+    → IsPending aim gave left bytes old course handed events
+    → IsPending aim gave left (bytes ++ more) new course handed events
+pending_on aim gave left bytes more old new course handed events lines read pending = record {
   before = pending.before;
   has_read = subst (λ (ls : List (List ℕ)). HasReadOut new ls (pending.before ++ events)) (sym lines)
       (read (lines_of bytes) (pending.before ++ events) pending.has_read);
@@ -176,44 +176,44 @@ bad_by reader told is off none =
     let not_bad = ap not none in
     cc
 
-pub course_there : (knobs : KnobsView) (gave left : Option (List ℕ)) (bytes : List ℕ) (reader : EntryReader)
-    (course : Course) (handed : List Claimed) (heard : IsHeardBy knobs gave left bytes reader course handed)
-    → IsCourseOf course.knobs gave left course heard.said heard.events handed
-course_there knobs gave left bytes reader course handed heard =
-    subst (λ (k : KnobsView). IsCourseOf k gave left course heard.said heard.events handed) (sym heard.so_far.settings)
+pub course_there : (aim : AimView) (gave left : Option (List ℕ)) (bytes : List ℕ) (reader : EntryReader)
+    (course : Course) (handed : List Claimed) (heard : IsHeardBy aim gave left bytes reader course handed)
+    → IsCourseOf course.aim gave left course heard.said heard.events handed
+course_there aim gave left bytes reader course handed heard =
+    subst (λ (k : AimView). IsCourseOf k gave left course heard.said heard.events handed) (sym heard.so_far.settings)
     heard.so_far
 
 -- where they come next, the course is so by its own settings
-pub course_pending : (knobs : KnobsView) (gave left : Option (List ℕ)) (bytes : List ℕ) (reader : EntryReader)
+pub course_pending : (aim : AimView) (gave left : Option (List ℕ)) (bytes : List ℕ) (reader : EntryReader)
     (course : Course) (handed : List Claimed) (events : List Entry)
-    (pending : IsPending knobs gave left bytes reader course handed events)
-    → IsCourseOf course.knobs gave left course pending.said pending.before handed
-course_pending knobs gave left bytes reader course handed events pending =
-    subst (λ (k : KnobsView). IsCourseOf k gave left course pending.said pending.before handed)
+    (pending : IsPending aim gave left bytes reader course handed events)
+    → IsCourseOf course.aim gave left course pending.said pending.before handed
+course_pending aim gave left bytes reader course handed events pending =
+    subst (λ (k : AimView). IsCourseOf k gave left course pending.said pending.before handed)
     (sym pending.so_far.settings) pending.so_far
 
 -- and those that were taken out come next
-pub pending_of : (knobs : KnobsView) (gave left : Option (List ℕ)) (bytes : List ℕ) (old new : EntryReader)
+pub pending_of : (aim : AimView) (gave left : Option (List ℕ)) (bytes : List ℕ) (old new : EntryReader)
     (course : Course) (handed : List Claimed) (events : List Entry)
-    (heard : IsHeardBy knobs gave left bytes old course handed)
+    (heard : IsHeardBy aim gave left bytes old course handed)
     → HasReadOut new (lines_of bytes) (heard.events ++ events)
     → (0 < length events → AreEventsNext heard.events events)
-    → IsPending knobs gave left bytes new course handed events
-pending_of knobs gave left bytes old new course handed events heard read next =
+    → IsPending aim gave left bytes new course handed events
+pending_of aim gave left bytes old new course handed events heard read next =
     record { before = heard.events; has_read = read; said = heard.said; so_far = heard.so_far; next = next }
 
 -- the first of them are joined, and the course is ready for the others
-pub ready_first : (knobs : KnobsView) (gave left rest : Option (List ℕ)) (bytes : List ℕ) (reader : EntryReader)
+pub ready_first : (aim : AimView) (gave left rest : Option (List ℕ)) (bytes : List ℕ) (reader : EntryReader)
     (course later : Course) (handed : List Claimed) (events : List Entry) (n : ℕ)
-    (pending : IsPending knobs gave left bytes reader course handed events)
-    → IsReadyFor course.knobs gave rest later (pending.before ++ take n events) handed (drop n events)
-    → IsReady knobs gave rest bytes reader later handed (drop n events)
-ready_first knobs gave left rest bytes reader course later handed events n pending ready = record {
+    (pending : IsPending aim gave left bytes reader course handed events)
+    → IsReadyFor course.aim gave rest later (pending.before ++ take n events) handed (drop n events)
+    → IsReady aim gave rest bytes reader later handed (drop n events)
+ready_first aim gave left rest bytes reader course later handed events n pending ready = record {
   before = pending.before ++ take n events;
   has_read = subst (HasReadOut reader (lines_of bytes)) (sym (both_parts pending.before events n)) pending.has_read;
   ready = record {
     said = ready.said;
-    so_far = subst (λ (k : KnobsView). IsCourseOf k gave rest later ready.said (pending.before ++ take n events) handed)
+    so_far = subst (λ (k : AimView). IsCourseOf k gave rest later ready.said (pending.before ++ take n events) handed)
         pending.so_far.settings ready.so_far;
     next = ready.next;
     past = ready.past;
@@ -221,30 +221,30 @@ ready_first knobs gave left rest bytes reader course later handed events n pendi
 }
 
 -- a course that is ready for them, by its own settings
-unfoldable pub ready_there : (knobs : KnobsView) (gave left : Option (List ℕ)) (bytes : List ℕ) (reader : EntryReader)
+unfoldable pub ready_there : (aim : AimView) (gave left : Option (List ℕ)) (bytes : List ℕ) (reader : EntryReader)
     (course : Course) (handed : List Claimed) (events : List Entry)
-    (ready : IsReady knobs gave left bytes reader course handed events)
-    → IsReadyFor course.knobs gave left course ready.before handed events
-ready_there knobs gave left bytes reader course handed events ready = record {
+    (ready : IsReady aim gave left bytes reader course handed events)
+    → IsReadyFor course.aim gave left course ready.before handed events
+ready_there aim gave left bytes reader course handed events ready = record {
   said = ready.ready.said;
-  so_far = subst (λ (k : KnobsView). IsCourseOf k gave left course ready.ready.said ready.before handed)
+  so_far = subst (λ (k : AimView). IsCourseOf k gave left course ready.ready.said ready.before handed)
       (sym ready.ready.so_far.settings) ready.ready.so_far;
   next = ready.ready.next;
   past = ready.ready.past;
 }
 
 -- what was joined is handed on
-pub ready_on : (knobs : KnobsView) (gave left : Option (List ℕ)) (bytes : List ℕ) (reader : EntryReader)
+pub ready_on : (aim : AimView) (gave left : Option (List ℕ)) (bytes : List ℕ) (reader : EntryReader)
     (course later : Course) (handed after : List Claimed) (events : List Entry)
-    (ready : IsReady knobs gave left bytes reader course handed events) → later.companion ≡ course.companion
-    → IsCourseOf course.knobs gave left later ready.ready.said ready.before after
-    → IsReady knobs gave left bytes reader later after events
-ready_on knobs gave left bytes reader course later handed after events ready same went = record {
+    (ready : IsReady aim gave left bytes reader course handed events) → later.companion ≡ course.companion
+    → IsCourseOf course.aim gave left later ready.ready.said ready.before after
+    → IsReady aim gave left bytes reader later after events
+ready_on aim gave left bytes reader course later handed after events ready same went = record {
   before = ready.before;
   has_read = ready.has_read;
   ready = record {
     said = ready.ready.said;
-    so_far = subst (λ (k : KnobsView). IsCourseOf k gave left later ready.ready.said ready.before after)
+    so_far = subst (λ (k : AimView). IsCourseOf k gave left later ready.ready.said ready.before after)
         ready.ready.so_far.settings went;
     next = ready.ready.next;
     past = λ some. subst (λ (input : CompanionInput). IsPast (edge_of (ready.before ++ events)) ready.ready.said input)
@@ -253,16 +253,16 @@ ready_on knobs gave left bytes reader course later handed after events ready sam
 }
 
 -- and it went through them
-pub gone_through : (knobs : KnobsView) (gave left : Option (List ℕ)) (bytes : List ℕ) (reader : EntryReader)
+pub gone_through : (aim : AimView) (gave left : Option (List ℕ)) (bytes : List ℕ) (reader : EntryReader)
     (course later : Course) (handed : List Claimed) (events : List Entry) (after : List Claimed)
-    (ready : IsReady knobs gave left bytes reader course handed events)
-    → CourseGoesOn course.knobs gave left later (ready.before ++ events) after
-    → IsHeardBy knobs gave left bytes reader later after
-gone_through knobs gave left bytes reader course later handed events after ready went = record {
+    (ready : IsReady aim gave left bytes reader course handed events)
+    → CourseGoesOn course.aim gave left later (ready.before ++ events) after
+    → IsHeardBy aim gave left bytes reader later after
+gone_through aim gave left bytes reader course later handed events after ready went = record {
   events = ready.before ++ events;
   has_read = ready.has_read;
   said = went.0;
-  so_far = subst (λ (k : KnobsView). IsCourseOf k gave left later went.0 (ready.before ++ events) after)
+  so_far = subst (λ (k : AimView). IsCourseOf k gave left later went.0 (ready.before ++ events) after)
       ready.ready.so_far.settings went.1;
 }
 
@@ -278,10 +278,10 @@ pub all_that_came : {R : Type 0} (reads : R → R → List (List ℕ) → Type 0
 all_that_came reads gave left blocks done false ended stands = stands
 all_that_came reads gave left blocks done true ended stands = absurd cc
 
-module _ (knobs : KnobsView) (gave left : Option (List ℕ)) (trace : EntryReader) (course : Course)
-    (judge : Option Judge) (bytes : List ℕ) (all : IsHeard knobs gave left bytes trace course judge)
+module _ (aim : AimView) (gave left : Option (List ℕ)) (trace : EntryReader) (course : Course)
+    (judge : Option Judge) (bytes : List ℕ) (all : IsHeard aim gave left bytes trace course judge)
     (ended : course.companion.goes_on ≡ false) where
-  abbrev heard : IsHeardBy knobs gave left bytes trace course all.handed
+  abbrev heard : IsHeardBy aim gave left bytes trace course all.handed
   heard = all.by
 
   -- the companion is this
@@ -293,7 +293,7 @@ module _ (knobs : KnobsView) (gave left : Option (List ℕ)) (trace : EntryReade
       course.companion.goes_on ended heard.so_far.stands.stands
 
   whole_of : entries_of trace ≡ [] → IsIdle judge → IsReadOut trace (lines_of bytes) heard.events
-      → IsWholeCourse course.knobs course text_of heard.events judge
+      → IsWholeCourse course.aim course text_of heard.events judge
   whole_of none idle is =
       let so_far = heard.so_far in
       record {
@@ -330,13 +330,13 @@ module _ (knobs : KnobsView) (gave left : Option (List ℕ)) (trace : EntryReade
   }
 
   pub hearing_is : (whole : Option (List ℕ)) (hearing : Hearing) → Agrees whole bytes
-      → IsOutcome course.knobs bytes text_of hearing.outcome × TellsCharges text_of hearing.tells_charges
-      → IsHearingOf knobs whole gave hearing
+      → IsOutcome course.aim bytes text_of hearing.outcome × TellsCharges text_of hearing.tells_charges
+      → IsHearingOf aim whole gave hearing
   hearing_is whole hearing agrees is = record {
     trace_bytes = bytes;
     companion_bytes = text_of;
     trace_whole = agrees;
     companion_whole = text_whole;
-    answer = subst (λ (k : KnobsView). IsOutcome k bytes text_of hearing.outcome) heard.so_far.settings is.0;
+    answer = subst (λ (k : AimView). IsOutcome k bytes text_of hearing.outcome) heard.so_far.settings is.0;
     tells = is.1;
   }

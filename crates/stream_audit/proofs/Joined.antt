@@ -6,7 +6,7 @@ use Rattle.std.proofs.Common.{suc-le-suc, append-nil, append_assoc, length-appen
 use Rattle.std.proofs.lemmas.Bool.{false≢true}
 use Rattle.std.proofs.lemmas.List.{take_more}
 use Rattle.cfs_model.specs.Claimed.{Claimed}
-use Rattle.cfs_model.specs.Knobs.{KnobsView}
+use Rattle.stream_audit.specs.Aim.{AimView, audited_at, begun_of}
 use Rattle.cfs_model.specs.Limits.{greatest_line, greatest_setting, no_line}
 use Rattle.cfs_model.specs.declared.act.Entry.{Entry}
 use Rattle.cfs_model.specs.declared.charge_line.ChargeLine.{ChargeLine}
@@ -23,8 +23,7 @@ use Rattle.sched_record.specs.declared.joining.JoinFault.{JoinFault}
 use Rattle.ticket_book.specs.SaidEvents.{events_of}
 use Rattle.companion_file.specs.Seen.{companion_view}
 use Rattle.sched_record.specs.Window.{window_view}
-use Rattle.window_audit.specs.Audit.{Beginning}
-use Rattle.window_audit.specs.Whole.{beginning_of}
+use Rattle.stream_audit.specs.Aim.{Begun}
 use Rattle.window_joining.specs.Joining.{GoTogetherSoFar, IsHeadOf, IsHeld, IsRestOf, StandBehind, edge_from}
 use Rattle.window_joining.specs.Joining.{edge_of}
 use Rattle.stream_laws.proofs.Prefix.{few_events, record_so_far, same_count, times_stay_below}
@@ -114,18 +113,21 @@ all_behind c o = record {
 
 -- ---- the beginning
 
-abbrev beginning_by : KnobsView → ℕ → List ℤ → List Task → ℕ → Beginning
-beginning_by knobs start floors tasks cpus =
-    record { knobs = knobs; start = start; floors = floors; tasks = tasks; cpus = cpus }
+abbrev beginning_by : AimView → ℕ → List ℤ → List Task → ℕ → Begun
+beginning_by aim start floors tasks cpus =
+    record {
+      of = record { knobs = audited_at aim; start = start; floors = floors; tasks = tasks; cpus = cpus };
+      least = aim.least;
+    }
 
 -- it is that of the head
-pub same_beginning : (knobs : KnobsView) (head c : CompanionView) (events : List Entry) → IsHeadOf head c
-    → beginning_of knobs (joined_record [] head) ≡ beginning_of knobs (joined_record events c)
-same_beginning knobs head c events h =
-    ap (λ s. beginning_by knobs s head.floors head.tasks head.cpus) h.start
-    ∙ ap (λ f. beginning_by knobs c.start f head.tasks head.cpus) h.floors
-    ∙ ap (λ t. beginning_by knobs c.start c.floors t head.cpus) h.tasks
-    ∙ ap (λ n. beginning_by knobs c.start c.floors c.tasks n) h.cpus
+pub same_beginning : (aim : AimView) (head c : CompanionView) (events : List Entry) → IsHeadOf head c
+    → begun_of aim (joined_record [] head) ≡ begun_of aim (joined_record events c)
+same_beginning aim head c events h =
+    ap (λ s. beginning_by aim s head.floors head.tasks head.cpus) h.start
+    ∙ ap (λ f. beginning_by aim c.start f head.tasks head.cpus) h.floors
+    ∙ ap (λ t. beginning_by aim c.start c.floors t head.cpus) h.tasks
+    ∙ ap (λ n. beginning_by aim c.start c.floors c.tasks n) h.cpus
 
 -- ---- the window
 
@@ -134,13 +136,13 @@ still false new stays e = refl
 still true new stays e = let same = sym (stays refl) ∙ e in absurd cc
 
 -- a window comes next behind what is known
-pub window_next : (c : CompanionView) (events : List Entry) (so_far window : List Claimed) (knobs : KnobsView)
+pub window_next : (c : CompanionView) (events : List Entry) (so_far window : List Claimed) (aim : AimView)
     (progress : Progress) → IsCompanionInOrder c → AreInOrder events
     → All (λ (event : Entry). event.line ≤ greatest_line) events → GoTogetherSoFar events c
     → so_far ++ window ≡ events_of (joined_record events c)
-    → IsKnownOf (beginning_of knobs (joined_record events c)) so_far progress
-    → IsNext (beginning_of knobs (joined_record events c)) so_far window progress
-window_next c events so_far window knobs progress companion trace below together is known = record {
+    → IsKnownOf (begun_of aim (joined_record events c)) so_far progress
+    → IsNext (begun_of aim (joined_record events c)) so_far window progress
+window_next c events so_far window aim progress companion trace below together is known = record {
   known = known;
   is_record = subst (λ (es : List Claimed). IsRecord c.start c.floors c.tasks es c.cpus) (sym is)
       (record_so_far (joined_record events c) companion trace together.inside together.in_time);
@@ -154,31 +156,31 @@ window_next c events so_far window knobs progress companion trace below together
 
 -- what was joined is handed on to a judge for whom none waits
 pub awaits : (c : CompanionView) (events : List Entry) (handed : List Claimed) (joined : JoinedEvents)
-    (knobs : KnobsView) (old new : Judge) → IsCompanionInOrder c → AreInOrder events
+    (aim : AimView) (old new : Judge) → IsCompanionInOrder c → AreInOrder events
     → All (λ (event : Entry). event.line ≤ greatest_line) events → GoTogetherSoFar events c
-    → AreJoinedSoFar c events handed joined → IsAwaiting (begun knobs joined.start) handed old
+    → AreJoinedSoFar c events handed joined → IsAwaiting (begun aim joined.start) handed old
     → window_view old.window ≡ [] → window_view new.window ≡ window_view joined.window → new.progress ≡ old.progress
-    → IsAwaiting (begun knobs joined.start) (handed ++ window_view joined.window) new
-awaits c events handed joined knobs old new companion trace few together so was none given same =
-    let of = begun knobs joined.start in
+    → IsAwaiting (begun aim joined.start) (handed ++ window_view joined.window) new
+awaits c events handed joined aim old new companion trace few together so was none given same =
+    let of = begun aim joined.start in
     let before : was.so_far ≡ handed =
     sym (append-nil was.so_far) ∙ ap (λ (w : List Claimed). was.so_far ++ w) (sym none) ∙ was.parts in
     let known : IsKnownOf of handed new.progress =
     subst (IsKnownOf of handed) (sym same)
     (subst (λ (es : List Claimed). IsKnownOf of es old.progress) before was.known) in
-    let begins = same_beginning knobs (companion_view joined.start) c events so.head in
+    let begins = same_beginning aim (companion_view joined.start) c events so.head in
     record {
       so_far = handed;
       parts = ap (λ (w : List Claimed). handed ++ w) given;
       known = known;
-      next = λ some. subst (λ (b : Beginning). IsNext b handed (window_view new.window) new.progress) (sym begins)
-          (window_next c events handed (window_view new.window) knobs new.progress companion trace few together
+      next = λ some. subst (λ (b : Begun). IsNext b handed (window_view new.window) new.progress) (sym begins)
+          (window_next c events handed (window_view new.window) aim new.progress companion trace few together
           (ap (λ (w : List Claimed). handed ++ w) given ∙ so.window)
-          (subst (λ (b : Beginning). IsKnownOf b handed new.progress) begins known));
+          (subst (λ (b : Begun). IsKnownOf b handed new.progress) begins known));
     }
 
 -- a judge for whom none waits knows all that was handed on
-pub all_known : (of : Beginning) (handed : List Claimed) (judge : Judge) → IsAwaiting of handed judge
+pub all_known : (of : Begun) (handed : List Claimed) (judge : Judge) → IsAwaiting of handed judge
     → window_view judge.window ≡ [] → IsKnownOf of handed judge.progress
 all_known of handed judge was none =
     let before : was.so_far ≡ handed =
@@ -186,7 +188,7 @@ all_known of handed judge was none =
     subst (λ (es : List Claimed). IsKnownOf of es judge.progress) before was.known
 
 -- one of whom the window is let go that was judged
-pub none_awaited : (of : Beginning) (handed : List Claimed) (judge : Judge) → IsKnownOf of handed judge.progress
+pub none_awaited : (of : Begun) (handed : List Claimed) (judge : Judge) → IsKnownOf of handed judge.progress
     → window_view judge.window ≡ [] → IsAwaiting of handed judge
 none_awaited of handed judge known none = record {
   so_far = handed;
@@ -241,17 +243,17 @@ calm false answer tells none = refl
 calm true answer tells none = absurd (false≢true (subst IsSome none (tells refl)))
 
 pub at_end : (c : CompanionView) (events : List Entry) (handed : List Claimed) (claims : List Claim)
-    (nices : List NiceLine) (charges : List ChargeLine) (joined : JoinedEvents) (knobs : KnobsView) (judge : Judge)
+    (nices : List NiceLine) (charges : List ChargeLine) (joined : JoinedEvents) (aim : AimView) (judge : Judge)
     → IsLast c events handed claims nices charges joined → GoTogetherSoFar events c
-    → IsKnownOf (begun knobs joined.start) handed judge.progress → window_view joined.window ≡ []
-    → IsAllOf knobs (joined_record events c) judge
-at_end c events handed claims nices charges joined knobs judge last together known none =
-    let begins = same_beginning knobs (companion_view joined.start) c events last.so_far.head in
+    → IsKnownOf (begun aim joined.start) handed judge.progress → window_view joined.window ≡ []
+    → IsAllOf aim (joined_record events c) judge
+at_end c events handed claims nices charges joined aim judge last together known none =
+    let begins = same_beginning aim (companion_view joined.start) c events last.so_far.head in
     let whole : handed ≡ events_of (joined_record events c) =
     sym (append-nil handed) ∙ ap (λ (w : List Claimed). handed ++ w) (sym none) ∙ last.so_far.window in
     record {
-      known = subst (λ (es : List Claimed). IsKnownOf (beginning_of knobs (joined_record events c)) es judge.progress)
-          whole (subst (λ (b : Beginning). IsKnownOf b handed judge.progress) begins known);
+      known = subst (λ (es : List Claimed). IsKnownOf (begun_of aim (joined_record events c)) es judge.progress)
+          whole (subst (λ (b : Begun). IsKnownOf b handed judge.progress) begins known);
       is_record = record_so_far (joined_record events c) last.companion last.trace together.inside together.in_time;
       last = last.last;
       times = times_stay_below (joined_record events c) last.last last.times;
@@ -261,9 +263,9 @@ at_end c events handed claims nices charges joined knobs judge last together kno
     }
 
 -- no sum over them is too great
-pub end_of : (knobs : KnobsView) (r : RecordView) (judge : Judge) → IsAllOf knobs r judge
-    → knobs.drift ≤ greatest_setting → IsEnd knobs r judge.progress
-end_of knobs r judge all drift = record {
+pub end_of : (aim : AimView) (r : RecordView) (judge : Judge) → IsAllOf aim r judge
+    → (audited_at aim).drift ≤ greatest_setting → IsEnd aim r judge.progress
+end_of aim r judge all drift = record {
   known = all.known;
   is_record = all.is_record;
   last = all.last;

@@ -1,14 +1,13 @@
 -- Two inputs stay under way as blocks are read and audited.
 use Rattle.std.proofs.Common.{◌≡◌, ◌<◌, ℕ, Bool, true, false, not, List, [], Option, Some, None, ap, arith, length}
 use Rattle.std.proofs.Common.{Result, Ok, Err, IfErr, IsErrAnd, refl, sym, subst, ◌∙◌}
-use Rattle.std.specs.Prelude.{IsNone, MatchOption}
-use Rattle.window_audit.specs.Audit.{Beginning}
+use Rattle.std.specs.Prelude.{IsNone}
+use Rattle.stream_audit.specs.Aim.{Begun}
 use Rattle.cfs_model.specs.Claimed.{Claimed}
-use Rattle.sched_record.specs.Window.{window_view}
 use Rattle.std.specs.Io.KnownBytes.{IsAtEnd}
 use Rattle.std.specs.Prelude.{IfOk, OnOk}
 use Rattle.audit_input.specs.declared.fault.Fault.{Fault}
-use Rattle.cfs_model.specs.Knobs.{KnobsView}
+use Rattle.stream_audit.specs.Aim.{AimView}
 use Rattle.cfs_model.specs.declared.act.Entry.{Entry}
 use Rattle.companion_file.specs.Earlier.{summed}
 use Rattle.entry_reader.specs.Reader.{HasReadOut}
@@ -35,10 +34,10 @@ none_next : (events : List Entry) → events ≡ [] → 0 < length events → Ar
 none_next events none some = let e = ap (λ (es : List Entry). length es) none in absurd (omega (arith, e, some))
 
 -- before the first read
-pub before_any : (knobs : KnobsView) (trace gave : Option (List ℕ)) (intake : Intake) → IsFresh intake.blocks
+pub before_any : (aim : AimView) (trace gave : Option (List ℕ)) (intake : Intake) → IsFresh intake.blocks
     → HasReadOut intake.reader [] [] → intake.events.items ≡ []
-    → IsCourseOf knobs gave gave intake.course (summed []) [] [] → IsComing knobs trace trace gave gave intake []
-before_any knobs trace gave intake none read empty course = record {
+    → IsCourseOf aim gave gave intake.course (summed []) [] [] → IsComing aim trace trace gave gave intake []
+before_any aim trace gave intake none read empty course = record {
   bytes = [];
   stands = fresh ReadsEntries trace intake.blocks none;
   pending = record {
@@ -51,36 +50,36 @@ before_any knobs trace gave intake none read empty course = record {
   };
 }
 
-settled_none : (P : Beginning → List Claimed → Judge → Type 0) (knobs : KnobsView) (joined : Option JoinedEvents)
-    (judge : Option Judge) → IsNone joined → IsNone judge → IsSettledBy P knobs joined [] judge
-settled_none P knobs None judge none nobody = (refl, nobody)
-settled_none P knobs (Some j) judge none nobody = absurd (let e = none in cc)
+settled_none : (P : Begun → List Claimed → Judge → Type 0) (aim : AimView) (joined : Option JoinedEvents)
+    (judge : Option Judge) → IsNone joined → IsNone judge → IsSettledBy P aim joined [] judge
+settled_none P aim None judge none nobody = (refl, nobody)
+settled_none P aim (Some j) judge none nobody = absurd (let e = none in cc)
 
-pub none_heard : (knobs : KnobsView) (trace gave : Option (List ℕ)) (listener : Listener)
-    → IsComing knobs trace trace gave gave listener.intake [] → IsNone listener.intake.course.joined
-    → IsNone listener.judge → IsUnderWay knobs trace trace gave gave listener true
-none_heard knobs trace gave listener coming none nobody = record {
+pub none_heard : (aim : AimView) (trace gave : Option (List ℕ)) (listener : Listener)
+    → IsComing aim trace trace gave gave listener.intake [] → IsNone listener.intake.course.joined
+    → IsNone listener.judge → IsUnderWay aim trace trace gave gave listener true
+none_heard aim trace gave listener coming none nobody = record {
   bytes = coming.bytes;
   stands = coming.stands;
   handed = [];
   pending = coming.pending;
-  judged = λ calm. settled_none IsAwaiting listener.intake.course.knobs listener.intake.course.joined listener.judge
+  judged = λ calm. settled_none IsAwaiting listener.intake.course.aim listener.intake.course.joined listener.judge
       none nobody;
 }
 
 -- what is under way comes in
-pub coming_of : (knobs : KnobsView) (trace_gave trace_left gave left : Option (List ℕ)) (listener : Listener)
-    (under : IsUnderWay knobs trace_gave trace_left gave left listener true)
-    → IsComing knobs trace_gave trace_left gave left listener.intake under.handed
-coming_of knobs trace_gave trace_left gave left listener under =
+pub coming_of : (aim : AimView) (trace_gave trace_left gave left : Option (List ℕ)) (listener : Listener)
+    (under : IsUnderWay aim trace_gave trace_left gave left listener true)
+    → IsComing aim trace_gave trace_left gave left listener.intake under.handed
+coming_of aim trace_gave trace_left gave left listener under =
     record { bytes = under.bytes; stands = under.stands; pending = under.pending }
 
 -- where the trace goes on
-pub still_under_way : (knobs : KnobsView) (trace_gave trace_left gave left : Option (List ℕ)) (listener : Listener)
-    (goes_on : Bool) → goes_on ≡ true → IsUnderWay knobs trace_gave trace_left gave left listener goes_on
-    → IsUnderWay knobs trace_gave trace_left gave left listener true
-still_under_way knobs trace_gave trace_left gave left listener goes_on is under =
-    subst (λ (b : Bool). IsUnderWay knobs trace_gave trace_left gave left listener b) is under
+pub still_under_way : (aim : AimView) (trace_gave trace_left gave left : Option (List ℕ)) (listener : Listener)
+    (goes_on : Bool) → goes_on ≡ true → IsUnderWay aim trace_gave trace_left gave left listener goes_on
+    → IsUnderWay aim trace_gave trace_left gave left listener true
+still_under_way aim trace_gave trace_left gave left listener goes_on is under =
+    subst (λ (b : Bool). IsUnderWay aim trace_gave trace_left gave left listener b) is under
 
 pub still_read : (left : Option (List ℕ)) (calls : ℕ) (has_failed has_ended : Bool) (blocks : LineBlocks)
     (goes_on : Bool) → goes_on ≡ true → IsReadBy left calls has_failed has_ended blocks goes_on
@@ -95,14 +94,14 @@ fed_as calls has_ended has_failed old new same fed =
     subst (λ (input : CompanionInput). IsFedBy calls has_ended has_failed input) (sym same) fed
 
 -- a course that went on with the companion alone
-pub heard_further : (knobs : KnobsView) (gave left rest : Option (List ℕ)) (bytes : List ℕ) (reader : EntryReader)
-    (old new : Course) (handed : List Claimed) (heard : IsHeardBy knobs gave left bytes reader old handed)
-    → CourseGoesOn old.knobs gave rest new heard.events handed → IsHeardBy knobs gave rest bytes reader new handed
-heard_further knobs gave left rest bytes reader old new handed heard went = record {
+pub heard_further : (aim : AimView) (gave left rest : Option (List ℕ)) (bytes : List ℕ) (reader : EntryReader)
+    (old new : Course) (handed : List Claimed) (heard : IsHeardBy aim gave left bytes reader old handed)
+    → CourseGoesOn old.aim gave rest new heard.events handed → IsHeardBy aim gave rest bytes reader new handed
+heard_further aim gave left rest bytes reader old new handed heard went = record {
   events = heard.events;
   has_read = heard.has_read;
   said = went.0;
-  so_far = subst (λ (k : KnobsView). IsCourseOf k gave rest new went.0 heard.events handed) heard.so_far.settings
+  so_far = subst (λ (k : AimView). IsCourseOf k gave rest new went.0 heard.events handed) heard.so_far.settings
       went.1;
 }
 

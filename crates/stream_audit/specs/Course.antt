@@ -3,7 +3,7 @@ use Rattle.std.specs.Prelude.{◌≡◌, ◌⊎◌, ℕ, ◌^◌, ◌<◌, ◌�
 use Rattle.std.specs.Prelude.{Ok, Err, IfOk, Result, drop, length, take}
 use Rattle.audit_input.specs.declared.fault.Fault.{Fault}
 use Rattle.cfs_model.specs.Claimed.{Claimed}
-use Rattle.cfs_model.specs.Knobs.{KnobsView}
+use Rattle.stream_audit.specs.Aim.{AimView}
 use Rattle.cfs_model.specs.Limits.{greatest_line}
 use Rattle.cfs_model.specs.declared.act.Entry.{Entry}
 use Rattle.companion_file.specs.Companion.{CompanionAnswer, CompanionView}
@@ -13,7 +13,7 @@ use Rattle.companion_file.specs.declared.fault.CompanionFault.TheVariants as fau
 use Rattle.sched_record.specs.Kept.{AreInOrder}
 use Rattle.sched_record.specs.Window.{window_view}
 use Rattle.text_parts.specs.Lines.{lines_of}
-use Rattle.window_audit.specs.Audit.{Beginning}
+use Rattle.stream_audit.specs.Aim.{Begun}
 use Rattle.window_joining.specs.Joining.{edge_of, is_refused}
 use Rattle.stream_audit.specs.Companion.{GoesPast, IsCompanionAt, IsPast}
 use Rattle.stream_audit.specs.Joined.{AreJoinedSoFar, IsEndOf}
@@ -49,10 +49,10 @@ pub record IsAmidJoining (course : Course) (said : Said) (events : List Entry) (
 
 -- of a companion that gave bytes before it had these left this was said so far, and where none of its lines is bad, the
 -- trace's events so far were joined with it, and these handed on
-pub record IsCourseOf (knobs : KnobsView) (gave left : Option (List ℕ)) (course : Course) (said : Said)
+pub record IsCourseOf (aim : AimView) (gave left : Option (List ℕ)) (course : Course) (said : Said)
     (events : List Entry) (handed : List Claimed) : Type 0
   where
-    pub settings : course.knobs ≡ knobs
+    pub settings : course.aim ≡ aim
     pub edge : ℕ
     pub passed : edge ≤ edge_of events
     pub stands : IsCompanionAt gave left course.companion said edge
@@ -61,8 +61,8 @@ pub record IsCourseOf (knobs : KnobsView) (gave left : Option (List ℕ)) (cours
         (λ joined. IsAmidJoining course said events handed joined)
 
 -- the same, where more was said
-abbrev pub CourseGoesOn : KnobsView → Option (List ℕ) → Option (List ℕ) → Course → List Entry → List Claimed → Type 0
-CourseGoesOn knobs gave left course events handed = (said : Said) × IsCourseOf knobs gave left course said events handed
+abbrev pub CourseGoesOn : AimView → Option (List ℕ) → Option (List ℕ) → Course → List Entry → List Claimed → Type 0
+CourseGoesOn aim gave left course events handed = (said : Said) × IsCourseOf aim gave left course said events handed
 
 -- nothing was found so far for which a text is refused
 abbrev pub IsCalm : Course → Type 0
@@ -71,21 +71,21 @@ IsCalm course = IsNone course.companion.reader.bad
 
 -- this is known of the events that were handed on and their judge, as their record begins; there are none, and no
 -- judge, before the first event
-abbrev pub IsSettledBy : (Beginning → List Claimed → Judge → Type 0) → KnobsView → Option JoinedEvents → List Claimed
+abbrev pub IsSettledBy : (Begun → List Claimed → Judge → Type 0) → AimView → Option JoinedEvents → List Claimed
     → Option Judge → Type 0
-IsSettledBy P knobs joined handed judge =
+IsSettledBy P aim joined handed judge =
     MatchOption joined ((handed ≡ []) × IsNone judge)
-    (λ from. MatchOption judge (handed ≡ []) (λ j. P (begun knobs from.start) handed j))
+    (λ from. MatchOption judge (handed ≡ []) (λ j. P (begun aim from.start) handed j))
 
 -- where nothing was found for which a text is refused, it is known what was handed on, but for the window that waits
 abbrev pub AreJudged : Course → List Claimed → Option Judge → Type 0
-AreJudged course handed judge = IsCalm course → IsSettledBy IsAwaiting course.knobs course.joined handed judge
+AreJudged course handed judge = IsCalm course → IsSettledBy IsAwaiting course.aim course.joined handed judge
 
 -- the same with that window
 abbrev pub WereJudged : Course → List Claimed → Option Judge → Type 0
 WereJudged course handed judge =
     IsCalm course
-    → IsSettledBy (λ of handed j. IsKnownOf of handed j.progress) course.knobs course.joined handed judge
+    → IsSettledBy (λ of handed j. IsKnownOf of handed j.progress) course.aim course.joined handed judge
 
 -- all that was joined was handed on
 abbrev pub IsHandedOn : Course → Type 0
@@ -105,11 +105,11 @@ IsDone input text = (input.goes_on ≡ false) × ((said : Said) × (edge : ℕ)
     × HasReadCompanion input.reader (lines_of text) said edge × AreCountable (lines_of text))
 
 -- these events come next, and nothing more can be said of their lines; it may be none
-pub record IsReadyFor (knobs : KnobsView) (gave left : Option (List ℕ)) (course : Course) (before : List Entry)
+pub record IsReadyFor (aim : AimView) (gave left : Option (List ℕ)) (course : Course) (before : List Entry)
     (handed : List Claimed) (events : List Entry) : Type 0
   where
     pub said : Said
-    pub so_far : IsCourseOf knobs gave left course said before handed
+    pub so_far : IsCourseOf aim gave left course said before handed
     pub next : 0 < length events → AreEventsNext before events
     pub past : 0 < length events → IsPast (edge_of (before ++ events)) said course.companion
 
@@ -119,8 +119,8 @@ pub record JoinsNext (left rest : Option (List ℕ)) (old new : Course) (events 
     : Type 0
   where
     pub went : (gave : Option (List ℕ)) (said : Said) (before : List Entry) (handed : List Claimed)
-        → IsCourseOf old.knobs gave left old said before handed → (0 < length events → AreEventsNext before events)
-        → IfOk result (λ count. IsReadyFor old.knobs gave rest new (before ++ take count events) handed
+        → IsCourseOf old.aim gave left old said before handed → (0 < length events → AreEventsNext before events)
+        → IfOk result (λ count. IsReadyFor old.aim gave rest new (before ++ take count events) handed
         (drop count events) × (IsCalm new → IsCalm old))
 
 -- these are all events of a trace
@@ -133,14 +133,14 @@ pub record AreAllEvents (events : List Entry) : Type 0 where
 
 -- all events of a trace were joined with a companion that was read to its end, and this is its text; all were handed
 -- on, and none waits to be judged
-pub record IsWholeCourse (knobs : KnobsView) (course : Course) (text : List ℕ) (events : List Entry)
+pub record IsWholeCourse (aim : AimView) (course : Course) (text : List ℕ) (events : List Entry)
     (judge : Option Judge) : Type 0
   where
     pub gave : Option (List ℕ)
     pub left : Option (List ℕ)
     pub said : Said
     pub handed : List Claimed
-    pub so_far : IsCourseOf knobs gave left course said events handed
+    pub so_far : IsCourseOf aim gave left course said events handed
     pub judged : AreJudged course handed judge
     pub handed_on : IsHandedOn course
     pub idle : IsIdle judge
@@ -149,8 +149,8 @@ pub record IsWholeCourse (knobs : KnobsView) (course : Course) (text : List ℕ)
     pub all : AreAllEvents events
 
 -- the companion is refused, or it means this, and what it comes to with these events is told
-abbrev pub IsClosingOf : KnobsView → List ℕ → List Entry → Closing → Type 0
-IsClosingOf knobs text events (Refused (faults.Text line cause)) = CompanionAnswer text (Err (line, cause))
-IsClosingOf knobs text events (Refused faults.Memory) = ⊥
-IsClosingOf knobs text events (Joined ending) =
-    (c : CompanionView) × CompanionAnswer text (Ok c) × IsEndOf knobs c events ending
+abbrev pub IsClosingOf : AimView → List ℕ → List Entry → Closing → Type 0
+IsClosingOf aim text events (Refused (faults.Text line cause)) = CompanionAnswer text (Err (line, cause))
+IsClosingOf aim text events (Refused faults.Memory) = ⊥
+IsClosingOf aim text events (Joined ending) =
+    (c : CompanionView) × CompanionAnswer text (Ok c) × IsEndOf aim c events ending

@@ -9,13 +9,13 @@ use Rattle.audit_input.specs.declared.fault.Fault.TheVariants.{ReadTrace, ReadCo
 use Rattle.audit_input.specs.declared.refused.Refused.{Refused}
 use Rattle.audit_input.specs.declared.refused.Refused.TheVariants as refusals
 use Rattle.cfs_model.specs.Claimed.{Claimed}
-use Rattle.cfs_model.specs.Knobs.{KnobsView}
+use Rattle.stream_audit.specs.Aim.{AimView}
 use Rattle.cfs_model.specs.declared.act.Entry.{Entry}
 use Rattle.companion_file.specs.Earlier.{Said}
 use Rattle.entry_reader.specs.Reader.{HasReadOut, entries_of}
 use Rattle.entry_reader.specs.declared.reader.EntryReader.{EntryReader}
+use Rattle.least_places.specs.Finding.{IsFinding}
 use Rattle.sched_record.specs.Record.{RecordView}
-use Rattle.ticket_book.specs.Verdict.{IsVerdict}
 use Rattle.text_parts.specs.Lines.{lines_of}
 use Rattle.stream_audit.specs.Course.{AreEventsNext, AreJudged, IsCourseOf, IsDone, IsHandedOn, IsReadyFor}
 use Rattle.stream_audit.specs.Course.{IsWholeCourse}
@@ -25,11 +25,11 @@ use Rattle.stream_audit.specs.declared.hearing.StreamOutcome.{StreamOutcome}
 use Rattle.stream_audit.specs.declared.hearing.StreamOutcome.TheVariants.{Judged, Text}
 use Rattle.stream_audit.specs.declared.judge.Judge.{Judge}
 
--- the outcome of a trace and its companion: the verdict on their record, or why one of them is refused
-abbrev pub IsOutcome : KnobsView → List ℕ → List ℕ → StreamOutcome → Type 0
-IsOutcome knobs trace companion (Judged verdict) =
-    (r : RecordView) × IsRecordOf trace companion r × IsVerdict knobs r verdict
-IsOutcome knobs trace companion (Text source line cause) = IsRefused trace companion source line cause
+-- the outcome of a trace and its companion: what is found of their record, or why one of them is refused
+abbrev pub IsOutcome : AimView → List ℕ → List ℕ → StreamOutcome → Type 0
+IsOutcome aim trace companion (Judged finding) =
+    (r : RecordView) × IsRecordOf trace companion r × IsFinding aim.least aim.knobs r finding
+IsOutcome aim trace companion (Text source line cause) = IsRefused trace companion source line cause
 
 -- a refusal is that of a trace and its companion; of want of memory nothing is said
 abbrev pub IsRefusalOf : List ℕ → List ℕ → Refused → Type 0
@@ -37,12 +37,12 @@ IsRefusalOf trace companion (refusals.Text source line cause) = IsRefused trace 
 IsRefusalOf trace companion refusals.Memory = Unit {0}
 
 -- it is that of the bytes that the two inputs still gave, and so is it whether the companion tells charges
-pub record IsHearingOf (knobs : KnobsView) (trace companion : Option (List ℕ)) (hearing : Hearing) : Type 0 where
+pub record IsHearingOf (aim : AimView) (trace companion : Option (List ℕ)) (hearing : Hearing) : Type 0 where
   pub trace_bytes : List ℕ
   pub companion_bytes : List ℕ
   pub trace_whole : Agrees trace trace_bytes
   pub companion_whole : Agrees companion companion_bytes
-  pub answer : IsOutcome knobs trace_bytes companion_bytes hearing.outcome
+  pub answer : IsOutcome aim trace_bytes companion_bytes hearing.outcome
   pub tells : TellsCharges companion_bytes hearing.tells_charges
 
 -- of an input: the bytes that it has left, where they are known; the reads made of it, whether one failed, and whether
@@ -76,41 +76,41 @@ pub record ReadsBoth {A : Type 0} (trace companion : Input) (result : Result A F
   pub order : IsErrOf result ReadCompanion → (trace.has_ended ≡ true) × (trace.has_failed ≡ false)
 
 -- these bytes of a trace were read, and a course joined all events of theirs that were taken out, and handed these on
-pub record IsHeardBy (knobs : KnobsView) (gave left : Option (List ℕ)) (bytes : List ℕ) (reader : EntryReader)
+pub record IsHeardBy (aim : AimView) (gave left : Option (List ℕ)) (bytes : List ℕ) (reader : EntryReader)
     (course : Course) (handed : List Claimed) : Type 0
   where
     pub events : List Entry
     pub has_read : HasReadOut reader (lines_of bytes) events
     pub said : Said
-    pub so_far : IsCourseOf knobs gave left course said events handed
+    pub so_far : IsCourseOf aim gave left course said events handed
 
 -- the same, but for these events, which were taken out and come next
-pub record IsPending (knobs : KnobsView) (gave left : Option (List ℕ)) (bytes : List ℕ) (reader : EntryReader)
+pub record IsPending (aim : AimView) (gave left : Option (List ℕ)) (bytes : List ℕ) (reader : EntryReader)
     (course : Course) (handed : List Claimed) (events : List Entry) : Type 0
   where
     pub before : List Entry
     pub has_read : HasReadOut reader (lines_of bytes) (before ++ events)
     pub said : Said
-    pub so_far : IsCourseOf knobs gave left course said before handed
+    pub so_far : IsCourseOf aim gave left course said before handed
     pub next : 0 < length events → AreEventsNext before events
 
 -- all events that were taken out were joined, what was joined was handed on, and judged but for a window
-pub record IsHeard (knobs : KnobsView) (gave left : Option (List ℕ)) (bytes : List ℕ) (reader : EntryReader)
+pub record IsHeard (aim : AimView) (gave left : Option (List ℕ)) (bytes : List ℕ) (reader : EntryReader)
     (course : Course) (judge : Option Judge) : Type 0
   where
     pub handed : List Claimed
-    pub by : IsHeardBy knobs gave left bytes reader course handed
+    pub by : IsHeardBy aim gave left bytes reader course handed
     pub judged : AreJudged course handed judge
     pub handed_on : IsHandedOn course
 
 -- these bytes of a trace were read, all events of theirs were taken out, and a course joined those before these, for
 -- which it is ready
-pub record IsReady (knobs : KnobsView) (gave left : Option (List ℕ)) (bytes : List ℕ) (reader : EntryReader)
+pub record IsReady (aim : AimView) (gave left : Option (List ℕ)) (bytes : List ℕ) (reader : EntryReader)
     (course : Course) (handed : List Claimed) (events : List Entry) : Type 0
   where
     pub before : List Entry
     pub has_read : HasReadOut reader (lines_of bytes) (before ++ events)
-    pub ready : IsReadyFor knobs gave left course before handed events
+    pub ready : IsReadyFor aim gave left course before handed events
 
 -- both texts were read whole: the trace is these bytes, and the companion is this text; of a trace of which no line is
 -- bad all events were joined
@@ -120,4 +120,4 @@ pub record AreBothDone (trace : EntryReader) (course : Course) (judge : Option J
     pub has_read : HasReadOut trace (lines_of bytes) events
     pub taken : IsNone trace.bad → entries_of trace ≡ []
     pub done : IsDone course.companion text
-    pub joined : IsNone trace.bad → IsWholeCourse course.knobs course text events judge
+    pub joined : IsNone trace.bad → IsWholeCourse course.aim course text events judge

@@ -2,7 +2,7 @@
 -- so far, with whole lists.
 use Rattle.std.specs.Prelude.{◌≡◌, ℕ, ◌^◌, ◌<◌, ◌≤◌, List, ◌++◌, All, Ok, Err}
 use Rattle.cfs_model.specs.Claimed.{Claimed}
-use Rattle.cfs_model.specs.Knobs.{KnobsView}
+use Rattle.stream_audit.specs.Aim.{AimView}
 use Rattle.cfs_model.specs.Limits.{greatest_line}
 use Rattle.cfs_model.specs.declared.act.Entry.{Entry}
 use Rattle.cfs_model.specs.declared.charge_line.ChargeLine.{ChargeLine}
@@ -11,11 +11,11 @@ use Rattle.cfs_model.specs.declared.nice_line.NiceLine.{NiceLine}
 use Rattle.companion_file.specs.Companion.{CompanionView}
 use Rattle.companion_file.specs.Order.{IsCompanionInOrder}
 use Rattle.companion_file.specs.Seen.{companion_view}
+use Rattle.least_places.specs.Finding.{IsFinding}
 use Rattle.sched_record.specs.Join.{joined_record, RecordAnswer}
 use Rattle.sched_record.specs.Kept.{AreInOrder}
 use Rattle.sched_record.specs.Window.{window_view}
 use Rattle.ticket_book.specs.SaidEvents.{events_of}
-use Rattle.ticket_book.specs.Verdict.{IsVerdict}
 use Rattle.window_joining.specs.Joining.{HasJoined, IsHeadOf, IsHeld}
 use Rattle.stream_audit.specs.declared.ending.Ending.{Ending}
 use Rattle.stream_audit.specs.declared.ending.Ending.TheVariants.{Judged, Apart}
@@ -58,8 +58,8 @@ pub record IsLast (c : CompanionView) (events : List Entry) (handed : List Claim
     pub times : All (λ event. event.time ≤ last) events
     pub last_fits : last < 2 ^ 64
 
--- the verdict on the record that both texts are, or why they don't go together
-abbrev pub IsEndOf : KnobsView → CompanionView → List Entry → Ending → Type 0
-IsEndOf knobs c events (Judged verdict) =
-    RecordAnswer events c (Ok (joined_record events c)) × IsVerdict knobs (joined_record events c) verdict
-IsEndOf knobs c events (Apart fault) = RecordAnswer events c (Err (fault.line, fault.cause))
+-- what is found of the record that both texts are, or why they don't go together
+abbrev pub IsEndOf : AimView → CompanionView → List Entry → Ending → Type 0
+IsEndOf aim c events (Judged finding) =
+    RecordAnswer events c (Ok (joined_record events c)) × IsFinding aim.least aim.knobs (joined_record events c) finding
+IsEndOf aim c events (Apart fault) = RecordAnswer events c (Err (fault.line, fault.cause))

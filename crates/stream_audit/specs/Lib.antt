@@ -1,3 +1,4 @@
+pub mod Aim
 pub mod Progress
 pub mod Joined
 pub mod Judge

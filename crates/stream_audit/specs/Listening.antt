@@ -7,7 +7,7 @@ use Rattle.audit_input.specs.declared.fault.Fault.{Fault}
 use Rattle.audit_input.specs.Known.{IsCutShort, most_reads}
 use Rattle.audit_input.specs.declared.fault.Fault.TheVariants.{Memory, ReadTrace, Write}
 use Rattle.cfs_model.specs.Claimed.{Claimed}
-use Rattle.cfs_model.specs.Knobs.{KnobsView}
+use Rattle.stream_audit.specs.Aim.{AimView}
 use Rattle.entry_reader.specs.Reader.{entries_of}
 use Rattle.input_blocks.specs.Blocks.{IsThen}
 use Rattle.input_blocks.specs.OfEntries.{ReadsEntries}
@@ -21,38 +21,38 @@ use Rattle.stream_audit.specs.declared.listener.Listener.{Listener}
 
 -- of a trace that gave bytes before it had these left, these were read, and of these all that was taken out was joined,
 -- but for the last events, which come next
-pub record IsComing (knobs : KnobsView) (trace_gave trace_left gave left : Option (List ℕ)) (intake : Intake)
+pub record IsComing (aim : AimView) (trace_gave trace_left gave left : Option (List ℕ)) (intake : Intake)
     (handed : List Claimed) : Type 0
   where
     pub bytes : List ℕ
     pub stands : IsThen ReadsEntries trace_gave trace_left intake.blocks bytes true
-    pub pending : IsPending knobs gave left bytes intake.reader intake.course handed intake.events.items
+    pub pending : IsPending aim gave left bytes intake.reader intake.course handed intake.events.items
 
 -- more was read since a course was this, and of what was taken out some events were joined, and the others come next
-pub record HasCome (knobs : KnobsView) (trace_gave trace_left gave left : Option (List ℕ)) (old : Course)
+pub record HasCome (aim : AimView) (trace_gave trace_left gave left : Option (List ℕ)) (old : Course)
     (intake : Intake) (handed : List Claimed) (goes_on : Bool) : Type 0
   where
     pub bytes : List ℕ
     pub stands : IsThen ReadsEntries trace_gave trace_left intake.blocks bytes goes_on
-    pub ready : IsReady knobs gave left bytes intake.reader intake.course handed (drop intake.next intake.events.items)
+    pub ready : IsReady aim gave left bytes intake.reader intake.course handed (drop intake.next intake.events.items)
     pub calm : IsCalm intake.course → IsCalm old
     pub starts : StartStays old.joined intake.course.joined
-    pub same_knobs : intake.course.knobs ≡ old.knobs
+    pub same_knobs : intake.course.aim ≡ old.aim
 
 -- the same, where what was joined was handed on, and judged but for a window
-pub record IsUnderWay (knobs : KnobsView) (trace_gave trace_left gave left : Option (List ℕ)) (listener : Listener)
+pub record IsUnderWay (aim : AimView) (trace_gave trace_left gave left : Option (List ℕ)) (listener : Listener)
     (goes_on : Bool) : Type 0
   where
     pub bytes : List ℕ
     pub stands : IsThen ReadsEntries trace_gave trace_left listener.intake.blocks bytes goes_on
     pub handed : List Claimed
-    pub pending : IsPending knobs gave left bytes listener.intake.reader listener.intake.course handed
+    pub pending : IsPending aim gave left bytes listener.intake.reader listener.intake.course handed
         listener.intake.events.items
     pub judged : AreJudged listener.intake.course handed listener.judge
 
 -- nothing was heard yet, whatever the inputs have
-abbrev pub HasHeardNothing : KnobsView → Listener → Type 0
-HasHeardNothing knobs listener = (trace gave : Option (List ℕ)) → IsUnderWay knobs trace trace gave gave listener true
+abbrev pub HasHeardNothing : AimView → Listener → Type 0
+HasHeardNothing aim listener = (trace gave : Option (List ℕ)) → IsUnderWay aim trace trace gave gave listener true
 
 -- an input was read as often as its blocks say, no read of it failed, and it has ended where it doesn't go on
 pub record IsReadBy (left : Option (List ℕ)) (calls : ℕ) (has_failed has_ended : Bool) (blocks : LineBlocks)

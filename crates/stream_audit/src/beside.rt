@@ -37,13 +37,13 @@ pub(crate) fn join_and_read<R: Threads + Sync, T: Feed, C: Feed + Send>(
     requires fed { IsFedBy (C.calls companion.old) (C.has_ended companion.old) (C.has_failed companion.old)
         course.old.companion }
     requires next { (gave : Option (List ℕ)) × (said : Said) × (before : List Event) × (handed : List Claimed)
-        × IsCourseOf course.old.knobs gave (C.left companion.old) course.old said before handed
+        × IsCourseOf course.old.aim gave (C.left companion.old) course.old said before handed
         × (0 < length events.now → AreEventsNext before events.now) }
     requires read { IsReadBy (T.left trace.old) (T.calls trace.old) (T.has_failed trace.old) (T.has_ended trace.old)
         blocks.old true }
     ensures joins { JoinsNext (C.left companion.old) (C.left companion.new) course.old course.new events.now result.0 }
     ensures starts { OnOk result.0 (StartStays course.old.joined course.new.joined) }
-    ensures knobs { course.new.knobs ≡ course.old.knobs }
+    ensures aim { course.new.aim ≡ course.old.aim }
     ensures within { IfOk result.0 (λ count. count ≤ length events.now) }
     ensures some { OnErr result.0 (0 < length events.now) }
     ensures fed { OnOk result.0 (IsFedBy (C.calls companion.new) (C.has_ended companion.new)
@@ -70,12 +70,12 @@ pub(crate) fn join_and_read<R: Threads + Sync, T: Feed, C: Feed + Send>(
                     course.now.companion }
                 requires next { (gave : Option (List ℕ)) × (said : Said) × (before : List Event)
                     × (handed : List Claimed)
-                    × IsCourseOf course.now.knobs gave (C.left companion.now) course.now said before handed
+                    × IsCourseOf course.now.aim gave (C.left companion.now) course.now said before handed
                     × (0 < length events.now → AreEventsNext before events.now) }
                 ensures joins { JoinsNext (C.left companion.entry.now) (C.left companion.exit.now) course.entry.now
                     course.exit.now events.entry.now result }
                 ensures starts { OnOk result (StartStays course.entry.now.joined course.exit.now.joined) }
-                ensures knobs { course.exit.now.knobs ≡ course.entry.now.knobs }
+                ensures aim { course.exit.now.aim ≡ course.entry.now.aim }
                 ensures within { IfOk result (λ count. count ≤ length events.entry.now) }
                 ensures some { OnErr result (0 < length events.entry.now) }
                 ensures fed { OnOk result (IsFedBy (C.calls companion.exit.now) (C.has_ended companion.exit.now)

@@ -16,25 +16,25 @@ ghost use Rattle.stream_audit.specs.Course.{StartStays, WereJudged};
 ghost use Rattle.stream_audit.specs.Judge.{IsAllOf, IsAwaiting, begun};
 ghost use Rattle.stream_audit.specs.Progress.{IsKnownOf};
 ghost use Rattle.stream_audit.specs.declared.course.Course.{Course as CourseOf};
+ghost use Rattle.least_places.specs.Finding.{IsFinding};
 ghost use Rattle.sched_record.specs.Record.{RecordView};
-ghost use Rattle.ticket_book.specs.Verdict.{IsVerdict};
 
 use crate::companion_input::CompanionInput;
-use crate::{Ending, JoinedEvents, Judge, Past};
+use crate::{Aim, Ending, JoinedEvents, Judge, Past};
 use audit_input::{Fault, Feed};
-use cfs_model::{Entry, Knobs, Memory};
+use cfs_model::{Entry, Memory};
 use companion_file::CompanionFault;
+use least_places::Finding;
 use pid_table::PidHasher;
 use std::alloc::Global;
 use std::thread::Threads;
-use ticket_book::Verdict;
 use window_joining::together;
 
 /// A recording's companion so far, and the trace's events that were joined with it.
 #[derive(Drop)]
 pub(crate) struct Course {
     companion: CompanionInput,
-    knobs: Knobs,
+    aim: Aim,
     hasher: PidHasher,
     /// None before the first event, and where the companion has no start.
     joined: Option<JoinedEvents>,
@@ -51,15 +51,15 @@ pub(crate) enum Closing {
 
 impl Course {
     /// Before the first event. A read of the companion will ask for at most so many bytes.
-    pub fn new(alloc: Global, size: u32, knobs: Knobs, hasher: PidHasher) -> Course
+    pub fn new(alloc: Global, size: u32, aim: Aim, hasher: PidHasher) -> Course
         requires { 0 < size }
-        ensures course { (gave : Option (List ℕ)) → IsCourseOf knobs gave gave result (summed []) [] [] }
+        ensures course { (gave : Option (List ℕ)) → IsCourseOf aim gave gave result (summed []) [] [] }
         ensures fed { IsFedBy 0 false false result.companion }
         ensures none { IsNone result.joined }
     {
         Course {
             companion: CompanionInput::new(alloc, size),
-            knobs,
+            aim,
             hasher,
             joined: None,
         }
@@ -70,13 +70,13 @@ impl Course {
         requires fed { IsFedBy (C.calls companion.old) (C.has_ended companion.old) (C.has_failed companion.old)
             self.old.companion }
         ensures went { (gave : Option (List ℕ)) (said : Said) (before : List Event) (handed : List Claimed)
-            → IsCourseOf self.old.knobs gave (C.left companion.old) self.old said before handed
+            → IsCourseOf self.old.aim gave (C.left companion.old) self.old said before handed
             → (0 < length events.now → AreEventsNext before events.now)
-            → OnOk result (IsReadyFor self.old.knobs gave (C.left companion.new) self.new before handed events.now
+            → OnOk result (IsReadyFor self.old.aim gave (C.left companion.new) self.new before handed events.now
             × (IsCalm self.new → IsCalm self.old)) }
         ensures some { OnErr result (0 < length events.now) }
         ensures joined { self.new.joined ≡ self.old.joined }
-        ensures knobs { self.new.knobs ≡ self.old.knobs }
+        ensures aim { self.new.aim ≡ self.old.aim }
         ensures fed { OnOk result (IsFedBy (C.calls companion.new) (C.has_ended companion.new)
             (C.has_failed companion.new) self.new.companion) }
         ensures bounded { C.calls companion.new ≤ most_reads }
@@ -102,11 +102,11 @@ impl Course {
         requires fed { IsFedBy (C.calls companion.old) (C.has_ended companion.old) (C.has_failed companion.old)
             self.old.companion }
         requires next { (gave : Option (List ℕ)) × (said : Said) × (before : List Event) × (handed : List Claimed)
-            × IsCourseOf self.old.knobs gave (C.left companion.old) self.old said before handed
+            × IsCourseOf self.old.aim gave (C.left companion.old) self.old said before handed
             × (0 < length events.now → AreEventsNext before events.now) }
         ensures joins { JoinsNext (C.left companion.old) (C.left companion.new) self.old self.new events.now result }
         ensures starts { OnOk result (StartStays self.old.joined self.new.joined) }
-        ensures knobs { self.new.knobs ≡ self.old.knobs }
+        ensures aim { self.new.aim ≡ self.old.aim }
         ensures within { IfOk result (λ count. count ≤ length events.now) }
         ensures some { OnErr result (0 < length events.now) }
         ensures fed { OnOk result (IsFedBy (C.calls companion.new) (C.has_ended companion.new)
@@ -124,13 +124,13 @@ impl Course {
     /// read past all of them.
     fn join_first(&mut self, alloc: Global, events: &[Entry], most: usize) -> Result<usize, Memory>
         requires { (gave : Option (List ℕ)) × (left : Option (List ℕ)) × (before : List Event)
-            × (handed : List Claimed) × IsReadyFor self.old.knobs gave left self.old before handed events.now }
+            × (handed : List Claimed) × IsReadyFor self.old.aim gave left self.old before handed events.now }
         ensures ready { (gave : Option (List ℕ)) (left : Option (List ℕ)) (before : List Event) (handed : List Claimed)
-            → IsReadyFor self.old.knobs gave left self.old before handed events.now
-            → IfOk result (λ count. IsReadyFor self.old.knobs gave left self.new (before ++ take count events.now)
+            → IsReadyFor self.old.aim gave left self.old before handed events.now
+            → IfOk result (λ count. IsReadyFor self.old.aim gave left self.new (before ++ take count events.now)
             handed (drop count events.now) × (IsCalm self.new → IsCalm self.old)) }
         ensures starts { OnOk result (StartStays self.old.joined self.new.joined) }
-        ensures knobs { self.new.knobs ≡ self.old.knobs }
+        ensures aim { self.new.aim ≡ self.old.aim }
         ensures within { IfOk result (λ count. count ≤ length events.now) }
         ensures some { OnErr result (0 < length events.now) }
         ensures fed { (calls : ℕ) (has_ended : Bool) (has_failed : Bool)
@@ -150,21 +150,21 @@ impl Course {
     pub fn go_on(&mut self, alloc: Global, events: &[Entry]) -> Result<(), Memory>
         requires some { events.now ≢ [] }
         requires next { (gave : Option (List ℕ)) × (left : Option (List ℕ)) × (said : Said) × (before : List Event)
-            × (handed : List Claimed) × IsCourseOf self.old.knobs gave left self.old said before handed
+            × (handed : List Claimed) × IsCourseOf self.old.aim gave left self.old said before handed
             × AreEventsNext before events.now × IsPast (edge_of (before ++ events.now)) said self.old.companion }
         ensures went { (gave : Option (List ℕ)) (left : Option (List ℕ)) (said : Said) (before : List Event)
             (handed : List Claimed)
-            → IsCourseOf self.old.knobs gave left self.old said before handed → AreEventsNext before events.now
+            → IsCourseOf self.old.aim gave left self.old said before handed → AreEventsNext before events.now
             → IsPast (edge_of (before ++ events.now)) said self.old.companion
-            → OnOk result (IsCourseOf self.old.knobs gave left self.new said (before ++ events.now) handed
+            → OnOk result (IsCourseOf self.old.aim gave left self.new said (before ++ events.now) handed
             × (IsCalm self.new → IsCalm self.old)) }
         ensures past { (gave : Option (List ℕ)) (left : Option (List ℕ)) (said : Said) (before : List Event)
             (handed : List Claimed) (line : ℕ)
-            → IsCourseOf self.old.knobs gave left self.old said before handed → AreEventsNext before events.now
+            → IsCourseOf self.old.aim gave left self.old said before handed → AreEventsNext before events.now
             → IsPast (edge_of (before ++ events.now)) said self.old.companion → IsPast line said self.old.companion
             → OnOk result (IsPast line said self.new.companion) }
         ensures starts { OnOk result (StartStays self.old.joined self.new.joined) }
-        ensures knobs { self.new.knobs ≡ self.old.knobs }
+        ensures aim { self.new.aim ≡ self.old.aim }
         ensures fed { (calls : ℕ) (has_ended : Bool) (has_failed : Bool)
             → IsFedBy calls has_ended has_failed self.old.companion
             → IsFedBy calls has_ended has_failed self.new.companion }
@@ -179,16 +179,16 @@ impl Course {
     fn join(&mut self, alloc: Global, events: &[Entry]) -> Result<(), Memory>
         requires some { events.now ≢ [] }
         requires next { (gave : Option (List ℕ)) × (left : Option (List ℕ)) × (said : Said) × (before : List Event)
-            × (handed : List Claimed) × IsCourseOf self.old.knobs gave left self.old said before handed
+            × (handed : List Claimed) × IsCourseOf self.old.aim gave left self.old said before handed
             × AreEventsNext before events.now × IsPast (edge_of (before ++ events.now)) said self.old.companion }
         ensures went { (gave : Option (List ℕ)) (left : Option (List ℕ)) (said : Said) (before : List Event)
             (handed : List Claimed)
-            → IsCourseOf self.old.knobs gave left self.old said before handed → AreEventsNext before events.now
+            → IsCourseOf self.old.aim gave left self.old said before handed → AreEventsNext before events.now
             → IsPast (edge_of (before ++ events.now)) said self.old.companion
-            → OnOk result (IsCourseOf self.old.knobs gave left self.new said (before ++ events.now) handed
+            → OnOk result (IsCourseOf self.old.aim gave left self.new said (before ++ events.now) handed
             × (IsCalm self.new → IsCalm self.old)) }
         ensures starts { OnOk result (StartStays self.old.joined self.new.joined) }
-        ensures knobs { self.new.knobs ≡ self.old.knobs }
+        ensures aim { self.new.aim ≡ self.old.aim }
         ensures companion { self.new.companion ≡ self.old.companion }
     {
         self.begin(alloc)?;
@@ -207,15 +207,15 @@ impl Course {
     fn begin(&mut self, alloc: Global) -> Result<(), Memory>
         ensures stays { (gave : Option (List ℕ)) (left : Option (List ℕ)) (said : Said) (events : List Event)
             (handed : List Claimed)
-            → IsCourseOf self.old.knobs gave left self.old said events handed → IsPast no_line said self.old.companion
-            → OnOk result (IsCourseOf self.old.knobs gave left self.new said events handed) }
+            → IsCourseOf self.old.aim gave left self.old said events handed → IsPast no_line said self.old.companion
+            → OnOk result (IsCourseOf self.old.aim gave left self.new said events handed) }
         ensures begun { (gave : Option (List ℕ)) (left : Option (List ℕ)) (said : Said) (events : List Event)
             (handed : List Claimed)
-            → IsCourseOf self.old.knobs gave left self.old said events handed → IsNone self.new.companion.reader.bad
+            → IsCourseOf self.old.aim gave left self.old said events handed → IsNone self.new.companion.reader.bad
             → OnOk result (IsNone self.new.joined → HasNoStart said) }
         ensures same { OnOk result (IsSome self.old.joined → self.new.joined ≡ self.old.joined) }
         ensures handed_on { OnOk result (IsHandedOn self.old → IsHandedOn self.new) }
-        ensures knobs { self.new.knobs ≡ self.old.knobs }
+        ensures aim { self.new.aim ≡ self.old.aim }
         ensures companion { self.new.companion ≡ self.old.companion }
     {
         if self.joined.is_some() {
@@ -253,16 +253,16 @@ impl Course {
         requires { IsIdle judge.old }
         ensures went { (gave : Option (List ℕ)) (left : Option (List ℕ)) (said : Said) (events : List Event)
             (handed : List Claimed)
-            → IsCourseOf self.old.knobs gave left self.old said events handed → AreJudged self.old handed judge.old
-            → OnOk result ((after : List Claimed) × IsCourseOf self.old.knobs gave left self.new said events after
+            → IsCourseOf self.old.aim gave left self.old said events handed → AreJudged self.old handed judge.old
+            → OnOk result ((after : List Claimed) × IsCourseOf self.old.aim gave left self.new said events after
             × AreJudged self.new after judge.new) }
         ensures handed_on { OnOk result (IsHandedOn self.new) }
-        ensures knobs { self.new.knobs ≡ self.old.knobs }
+        ensures aim { self.new.aim ≡ self.old.aim }
         ensures companion { self.new.companion ≡ self.old.companion }
     {
         together();
         if let Some(joined) = &mut self.joined {
-            begin_judging(alloc, joined, self.knobs, self.hasher, judge, past)?;
+            begin_judging(alloc, joined, self.aim, self.hasher, judge, past)?;
             if let Some(judge) = judge {
                 judge.take(joined);
             }
@@ -306,17 +306,17 @@ impl Course {
     ) -> Result<(), Memory>
         requires some { 0 < most }
         requires ready { (gave : Option (List ℕ)) × (left : Option (List ℕ)) × (before : List Event)
-            × (handed : List Claimed) × IsReadyFor self.old.knobs gave left self.old before handed events.now
+            × (handed : List Claimed) × IsReadyFor self.old.aim gave left self.old before handed events.now
             × AreJudged self.old handed judge.old }
         requires handed_on { IsHandedOn self.old }
         ensures went { (gave : Option (List ℕ)) (left : Option (List ℕ)) (before : List Event) (handed : List Claimed)
-            → IsReadyFor self.old.knobs gave left self.old before handed events.now
+            → IsReadyFor self.old.aim gave left self.old before handed events.now
             → AreJudged self.old handed judge.old
             → OnOk result ((after : List Claimed)
-            × CourseGoesOn self.old.knobs gave left self.new (before ++ events.now) after
+            × CourseGoesOn self.old.aim gave left self.new (before ++ events.now) after
             × AreJudged self.new after judge.new) }
         ensures handed_on { OnOk result (IsHandedOn self.new) }
-        ensures knobs { self.new.knobs ≡ self.old.knobs }
+        ensures aim { self.new.aim ≡ self.old.aim }
         ensures fed { (calls : ℕ) (has_ended : Bool) (has_failed : Bool)
             → IsFedBy calls has_ended has_failed self.old.companion
             → IsFedBy calls has_ended has_failed self.new.companion }
@@ -341,24 +341,24 @@ impl Course {
     ) -> Result<(), Memory>
         requires some { events.now ≢ [] }
         requires next { (gave : Option (List ℕ)) × (left : Option (List ℕ)) × (said : Said) × (before : List Event)
-            × (handed : List Claimed) × IsCourseOf self.old.knobs gave left self.old said before handed
+            × (handed : List Claimed) × IsCourseOf self.old.aim gave left self.old said before handed
             × AreEventsNext before events.now × IsPast (edge_of (before ++ events.now)) said self.old.companion
             × AreJudged self.old handed judge.old }
         ensures went { (gave : Option (List ℕ)) (left : Option (List ℕ)) (said : Said) (before : List Event)
             (handed : List Claimed)
-            → IsCourseOf self.old.knobs gave left self.old said before handed → AreEventsNext before events.now
+            → IsCourseOf self.old.aim gave left self.old said before handed → AreEventsNext before events.now
             → IsPast (edge_of (before ++ events.now)) said self.old.companion
             → AreJudged self.old handed judge.old
             → OnOk result ((after : List Claimed)
-            × IsCourseOf self.old.knobs gave left self.new said (before ++ events.now) after
+            × IsCourseOf self.old.aim gave left self.new said (before ++ events.now) after
             × AreJudged self.new after judge.new) }
         ensures past { (gave : Option (List ℕ)) (left : Option (List ℕ)) (said : Said) (before : List Event)
             (handed : List Claimed) (line : ℕ)
-            → IsCourseOf self.old.knobs gave left self.old said before handed → AreEventsNext before events.now
+            → IsCourseOf self.old.aim gave left self.old said before handed → AreEventsNext before events.now
             → IsPast (edge_of (before ++ events.now)) said self.old.companion → IsPast line said self.old.companion
             → OnOk result (IsPast line said self.new.companion) }
         ensures handed_on { OnOk result (IsHandedOn self.new) }
-        ensures knobs { self.new.knobs ≡ self.old.knobs }
+        ensures aim { self.new.aim ≡ self.old.aim }
         ensures fed { (calls : ℕ) (has_ended : Bool) (has_failed : Bool)
             → IsFedBy calls has_ended has_failed self.old.companion
             → IsFedBy calls has_ended has_failed self.new.companion }
@@ -400,11 +400,11 @@ impl Course {
         requires fed { IsFedBy (C.calls companion.old) (C.has_ended companion.old) (C.has_failed companion.old)
             self.old.companion }
         ensures went { (gave : Option (List ℕ)) (said : Said) (events : List Event) (handed : List Claimed)
-            → IsCourseOf self.old.knobs gave (C.left companion.old) self.old said events handed
-            → OnOk result (CourseGoesOn self.old.knobs gave (C.left companion.new) self.new events handed
+            → IsCourseOf self.old.aim gave (C.left companion.old) self.old said events handed
+            → OnOk result (CourseGoesOn self.old.aim gave (C.left companion.new) self.new events handed
             × (IsCalm self.new → IsCalm self.old)) }
         ensures joined { self.new.joined ≡ self.old.joined }
-        ensures knobs { self.new.knobs ≡ self.old.knobs }
+        ensures aim { self.new.aim ≡ self.old.aim }
         ensures fed { OnOk result (IsFedBy (C.calls companion.new) (C.has_ended companion.new)
             (C.has_failed companion.new) self.new.companion) }
         ensures done { OnOk result (self.new.companion.goes_on ≡ false) }
@@ -428,9 +428,9 @@ impl Course {
     /// What the trace's events and the companion come to, once both were read to their ends, all events were joined and
     /// handed on, and none waits to be judged.
     pub fn finish(&mut self, alloc: Global, judge: Option<Judge>) -> Result<Closing, Memory>
-        requires { (text : List ℕ) × (events : List Event) × IsWholeCourse self.old.knobs self.old text events judge }
-        ensures { (text : List ℕ) (events : List Event) → IsWholeCourse self.old.knobs self.old text events judge
-            → IfOk result (IsClosingOf self.old.knobs text events) }
+        requires { (text : List ℕ) × (events : List Event) × IsWholeCourse self.old.aim self.old text events judge }
+        ensures { (text : List ℕ) (events : List Event) → IsWholeCourse self.old.aim self.old text events judge
+            → IfOk result (IsClosingOf self.old.aim text events) }
     {
         together();
         if let Err(fault) = self.companion.reader.finish() {
@@ -444,8 +444,8 @@ impl Course {
                 if let Some(fault) = apart {
                     return Ok(Closing::Joined(Ending::Apart(fault)));
                 }
-                let judge = judge_or_first(alloc, joined, self.knobs, self.hasher, judge)?;
-                Ok(Closing::Joined(Ending::Judged(verdict_of(alloc, self.knobs, judge)?)))
+                let judge = judge_or_first(alloc, joined, self.aim, self.hasher, judge)?;
+                Ok(Closing::Joined(Ending::Judged(finding_of(alloc, self.aim, judge)?)))
             }
             // A companion without a start is refused.
             None => unreachable!(),
@@ -457,21 +457,21 @@ impl Course {
 fn begin_judging<P: Past>(
     alloc: Global,
     joined: &JoinedEvents,
-    knobs: Knobs,
+    aim: Aim,
     hasher: PidHasher,
     judge: &mut Option<Judge>,
     past: &mut P,
 ) -> Result<(), Memory>
     ensures awaiting { (handed : List Claimed)
-        → MatchOption judge.old (handed ≡ []) (IsAwaiting (begun knobs joined.now.start) handed)
-        → OnOk result (MatchOption judge.new ⊥ (IsAwaiting (begun knobs joined.now.start) handed)) }
+        → MatchOption judge.old (handed ≡ []) (IsAwaiting (begun aim joined.now.start) handed)
+        → OnOk result (MatchOption judge.new ⊥ (IsAwaiting (begun aim joined.now.start) handed)) }
     ensures idle { IsIdle judge.old → OnOk result (IsIdle judge.new) }
     ensures some { OnOk result (IsSome judge.new) }
 {
     if judge.is_some() {
         return Ok(());
     }
-    let first = Judge::new(alloc, joined.start(), knobs, hasher)?;
+    let first = Judge::new(alloc, joined.start(), aim, hasher)?;
     first.begin_past(alloc, joined.start(), past)?;
     *judge = Some(first);
     Ok(())
@@ -481,28 +481,28 @@ fn begin_judging<P: Past>(
 fn judge_or_first(
     alloc: Global,
     joined: &JoinedEvents,
-    knobs: Knobs,
+    aim: Aim,
     hasher: PidHasher,
     judge: Option<Judge>,
 ) -> Result<Judge, Memory>
     ensures { (handed : List Claimed) → IsIdle judge
-        → MatchOption judge (handed ≡ []) (IsAwaiting (begun knobs joined.now.start) handed)
-        → IfOk result (λ found. IsKnownOf (begun knobs joined.now.start) handed found.progress) }
+        → MatchOption judge (handed ≡ []) (IsAwaiting (begun aim joined.now.start) handed)
+        → IfOk result (λ found. IsKnownOf (begun aim joined.now.start) handed found.progress) }
 {
     match judge {
         Some(judge) => Ok(judge),
-        None => Ok(Judge::new(alloc, joined.start(), knobs, hasher)?),
+        None => Ok(Judge::new(alloc, joined.start(), aim, hasher)?),
     }
 }
 
-/// The verdict on all events of a record.
-fn verdict_of(alloc: Global, knobs: Knobs, judge: Judge) -> Result<Verdict, Memory>
-    requires { (r : RecordView) × IsAllOf knobs r judge }
-    ensures { (r : RecordView) → IsAllOf knobs r judge → IfOk result (IsVerdict knobs r) }
+/// What is found of a record of which all events were judged.
+fn finding_of(alloc: Global, aim: Aim, judge: Judge) -> Result<Finding, Memory>
+    requires { (r : RecordView) × IsAllOf aim r judge }
+    ensures { (r : RecordView) → IsAllOf aim r judge → IfOk result (IsFinding aim.least aim.knobs r) }
 {
     // No sum is too great: the drift is a setting.
-    let _drift = knobs.drift();
-    judge.into_progress().finish(alloc)
+    let _drift = aim.knobs().drift();
+    judge.into_progress().finish(alloc, aim)
 }
 
 /// Judges the window that waits, where nothing was found so far for which a text is refused.

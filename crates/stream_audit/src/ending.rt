@@ -1,11 +1,11 @@
+use least_places::Finding;
 use sched_record::JoinFault;
-use ticket_book::Verdict;
 
 /// What a trace and a companion that both can be read come to.
 #[derive(Debug, Drop)]
 pub enum Ending {
-    /// The verdict on their record.
-    Judged(Verdict),
+    /// What is found of their record.
+    Judged(Finding),
     /// They don't go together.
     Apart(JoinFault),
 }

@@ -1,5 +1,5 @@
 use audit_input::{Cause, Source};
-use ticket_book::Verdict;
+use least_places::Finding;
 
 /// What two inputs of any length came to.
 #[derive(Debug, Drop)]
@@ -9,10 +9,10 @@ pub struct Hearing {
     pub tells_charges: bool,
 }
 
-/// The verdict on a record, or which text is refused and why.
+/// What is found of a record, or which text is refused and why.
 #[derive(Debug, Drop)]
 pub enum StreamOutcome {
-    Judged(Verdict),
+    Judged(Finding),
     Text {
         source: Source,
         /// The line in that text, from 1, comments counted; of joining, a line of the trace.

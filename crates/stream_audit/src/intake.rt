@@ -3,7 +3,7 @@ ghost use Rattle.std.specs.Prelude.{◌≡◌, ◌≢◌, ◌⊎◌, ◌++◌, �
 ghost use Rattle.std.specs.Prelude.{IfErr, IfOk, IsNone, OnErr, OnOk, length, drop, take};
 ghost use Rattle.audit_input.specs.Known.{IsCutShort, most_reads};
 ghost use Rattle.cfs_model.specs.Claimed.{Claimed};
-ghost use Rattle.cfs_model.specs.Knobs.{KnobsView};
+ghost use Rattle.stream_audit.specs.Aim.{AimView};
 ghost use Rattle.cfs_model.specs.declared.act.Entry.{Entry as Event};
 ghost use Rattle.entry_reader.specs.Reader.{HasReadOut, entries_of};
 ghost use Rattle.stream_audit.specs.Companion.{IsFedBy};
@@ -12,9 +12,9 @@ ghost use Rattle.stream_audit.specs.Hearing.{IsHeard, IsHeardBy, IsPending, IsRe
 
 use crate::beside::{fault_beside, join_and_read};
 use crate::course::Course;
-use crate::{Judge, Past, Sizes};
+use crate::{Aim, Judge, Past, Sizes};
 use audit_input::{Fault, Feed};
-use cfs_model::{Entry, Knobs, Memory};
+use cfs_model::{Entry, Memory};
 use entry_reader::EntryReader;
 use input_blocks::LineBlocks;
 use pid_table::PidHasher;
@@ -48,16 +48,16 @@ impl Intake {
     ghost use Rattle.stream_audit.specs.Listening.{EndsBoth, HasCome, IsComing, IsReadBy, IsTakenOut};
 
     /// Before the first read. Pids are hashed by these keys.
-    pub fn new(alloc: Global, knobs: Knobs, sizes: Sizes, hasher: PidHasher) -> Intake
+    pub fn new(alloc: Global, aim: Aim, sizes: Sizes, hasher: PidHasher) -> Intake
         ensures coming { (trace : Option (List ℕ)) (gave : Option (List ℕ))
-            → IsComing knobs trace trace gave gave result [] }
+            → IsComing aim trace trace gave gave result [] }
         ensures reads { result.blocks.reads ≡ 0 }
         ensures fed { IsFedBy 0 false false result.course.companion }
         ensures none { IsNone result.course.joined }
     {
         let blocks = LineBlocks::new(alloc, sizes.block());
         let reader = EntryReader::new(alloc);
-        let course = Course::new(alloc, sizes.block().min(COMPANION_BLOCK), knobs, hasher);
+        let course = Course::new(alloc, sizes.block().min(COMPANION_BLOCK), aim, hasher);
         Intake {
             blocks,
             reader,
@@ -81,17 +81,17 @@ impl Intake {
         alone: bool,
         beside: bool,
     ) -> Result<bool, Fault>
-        requires coming { (knobs : KnobsView) × (trace_gave : Option (List ℕ)) × (gave : Option (List ℕ))
+        requires coming { (aim : AimView) × (trace_gave : Option (List ℕ)) × (gave : Option (List ℕ))
             × (handed : List Claimed)
-            × IsComing knobs trace_gave (T.left trace.old) gave (C.left companion.old) self.old handed }
+            × IsComing aim trace_gave (T.left trace.old) gave (C.left companion.old) self.old handed }
         requires read { IsReadBy (T.left trace.old) (T.calls trace.old) (T.has_failed trace.old)
             (T.has_ended trace.old) self.old.blocks true }
         requires fed { IsFedBy (C.calls companion.old) (C.has_ended companion.old) (C.has_failed companion.old)
             self.old.course.companion }
-        ensures came { (knobs : KnobsView) (trace_gave : Option (List ℕ)) (gave : Option (List ℕ))
+        ensures came { (aim : AimView) (trace_gave : Option (List ℕ)) (gave : Option (List ℕ))
             (handed : List Claimed)
-            → IsComing knobs trace_gave (T.left trace.old) gave (C.left companion.old) self.old handed
-            → IfOk result (HasCome knobs trace_gave (T.left trace.new) gave (C.left companion.new) self.old.course
+            → IsComing aim trace_gave (T.left trace.old) gave (C.left companion.old) self.old handed
+            → IfOk result (HasCome aim trace_gave (T.left trace.new) gave (C.left companion.new) self.old.course
             self.new handed) }
         ensures read { IfOk result (IsReadBy (T.left trace.new) (T.calls trace.new) (T.has_failed trace.new)
             (T.has_ended trace.new) self.new.blocks) }
@@ -131,16 +131,16 @@ impl Intake {
     pub fn join_last<C: Feed>(&mut self, alloc: Global, companion: &mut C) -> Result<(), Fault>
         requires fed { IsFedBy (C.calls companion.old) (C.has_ended companion.old) (C.has_failed companion.old)
             self.old.course.companion }
-        requires pending { (knobs : KnobsView) × (gave : Option (List ℕ)) × (bytes : List ℕ) × (handed : List Claimed)
-            × IsPending knobs gave (C.left companion.old) bytes self.old.reader self.old.course handed
+        requires pending { (aim : AimView) × (gave : Option (List ℕ)) × (bytes : List ℕ) × (handed : List Claimed)
+            × IsPending aim gave (C.left companion.old) bytes self.old.reader self.old.course handed
             self.old.events.items }
-        ensures ready { (knobs : KnobsView) (gave : Option (List ℕ)) (bytes : List ℕ) (handed : List Claimed)
-            → IsPending knobs gave (C.left companion.old) bytes self.old.reader self.old.course handed
+        ensures ready { (aim : AimView) (gave : Option (List ℕ)) (bytes : List ℕ) (handed : List Claimed)
+            → IsPending aim gave (C.left companion.old) bytes self.old.reader self.old.course handed
             self.old.events.items
-            → OnOk result (IsReady knobs gave (C.left companion.new) bytes self.new.reader self.new.course handed
+            → OnOk result (IsReady aim gave (C.left companion.new) bytes self.new.reader self.new.course handed
             (drop self.new.next self.new.events.items) × (IsCalm self.new.course → IsCalm self.old.course)) }
         ensures starts { OnOk result (StartStays self.old.course.joined self.new.course.joined) }
-        ensures knobs { self.new.course.knobs ≡ self.old.course.knobs }
+        ensures aim { self.new.course.aim ≡ self.old.course.aim }
         ensures next { OnOk result (self.new.next ≤ length self.new.events.items) }
         ensures reader { self.new.reader ≡ self.old.reader }
         ensures fed { OnOk result (IsFedBy (C.calls companion.new) (C.has_ended companion.new)
@@ -159,9 +159,9 @@ impl Intake {
     /// joined.
     pub fn take_next(&mut self)
         requires { 0 < self.old.blocks.reads }
-        ensures pending { (knobs : KnobsView) (gave : Option (List ℕ)) (left : Option (List ℕ)) (bytes : List ℕ)
-            (handed : List Claimed) → IsHeardBy knobs gave left bytes self.old.reader self.old.course handed
-            → IsPending knobs gave left bytes self.new.reader self.new.course handed self.new.events.items }
+        ensures pending { (aim : AimView) (gave : Option (List ℕ)) (left : Option (List ℕ)) (bytes : List ℕ)
+            (handed : List Claimed) → IsHeardBy aim gave left bytes self.old.reader self.old.course handed
+            → IsPending aim gave left bytes self.new.reader self.new.course handed self.new.events.items }
         ensures taken { IsTakenOut self.new }
         ensures course { self.new.course ≡ self.old.course }
         ensures blocks { self.new.blocks ≡ self.old.blocks }
@@ -178,14 +178,14 @@ impl Intake {
         past: &mut P,
     ) -> Result<(), Memory>
         requires next { self.old.next ≤ length self.old.events.items }
-        requires ready { (knobs : KnobsView) × (gave : Option (List ℕ)) × (left : Option (List ℕ)) × (bytes : List ℕ)
-            × (handed : List Claimed) × IsReady knobs gave left bytes self.old.reader self.old.course handed
+        requires ready { (aim : AimView) × (gave : Option (List ℕ)) × (left : Option (List ℕ)) × (bytes : List ℕ)
+            × (handed : List Claimed) × IsReady aim gave left bytes self.old.reader self.old.course handed
             (drop self.old.next self.old.events.items) × AreJudged self.old.course handed judge.old }
         requires handed_on { IsHandedOn self.old.course }
-        ensures heard { (knobs : KnobsView) (gave : Option (List ℕ)) (left : Option (List ℕ)) (bytes : List ℕ)
-            (handed : List Claimed) → IsReady knobs gave left bytes self.old.reader self.old.course handed
+        ensures heard { (aim : AimView) (gave : Option (List ℕ)) (left : Option (List ℕ)) (bytes : List ℕ)
+            (handed : List Claimed) → IsReady aim gave left bytes self.old.reader self.old.course handed
             (drop self.old.next self.old.events.items) → AreJudged self.old.course handed judge.old
-            → OnOk result (IsHeard knobs gave left bytes self.new.reader self.new.course judge.new) }
+            → OnOk result (IsHeard aim gave left bytes self.new.reader self.new.course judge.new) }
         ensures reader { self.new.reader ≡ self.old.reader }
         ensures blocks { self.new.blocks ≡ self.old.blocks }
         ensures fed { (calls : ℕ) (has_ended : Bool) (has_failed : Bool)

@@ -1,18 +1,17 @@
 ghost use Rattle.std.specs.Prelude.{◌≡◌, [], List, IfOk, OnOk};
 ghost use Rattle.cfs_model.specs.Claimed.{Claimed};
 ghost use Rattle.sched_record.specs.Window.{window_view};
-ghost use Rattle.window_audit.specs.Audit.{Beginning};
+ghost use Rattle.stream_audit.specs.Aim.{Begun};
 ghost use Rattle.stream_audit.specs.Judge.{IsAwaiting, begun};
 ghost use Rattle.stream_audit.specs.Progress.{IsKnownOf};
 
-use crate::{JoinedEvents, Past, Progress};
-use cfs_model::{Knobs, Memory};
+use crate::{Aim, JoinedEvents, Past, Progress};
+use cfs_model::Memory;
 use companion_file::Companion;
 use pid_table::PidHasher;
 use sched_record::Window;
 use std::alloc::Global;
 use std::thread::Threads;
-use window_audit::WindowAudit;
 
 /// What is known of the events of a record that were handed on, but for the last window of them, which waits to be
 /// judged.
@@ -27,23 +26,22 @@ impl Judge {
     pub fn new(
         alloc: Global,
         start: &Companion,
-        knobs: Knobs,
+        aim: Aim,
         hasher: PidHasher,
     ) -> Result<Judge, Memory>
-        ensures known { IfOk result (IsAwaiting (begun knobs start.now) []) }
+        ensures known { IfOk result (IsAwaiting (begun aim start.now) []) }
         ensures emptied { IfOk result (λ judge. window_view judge.window ≡ []) }
     {
-        let audit = WindowAudit::new(alloc, start, knobs, hasher)?;
         Ok(Judge {
-            progress: Progress::Running(audit),
+            progress: Progress::new(alloc, start, aim, hasher)?,
             window: Window::new(alloc),
         })
     }
 
     /// Judges the window that waits.
     pub fn judge<R: Threads + Sync>(&mut self, rt: &R, alloc: Global) -> Result<(), Memory>
-        requires { (of : Beginning) × (handed : List Claimed) × IsAwaiting of handed self.old }
-        ensures { (of : Beginning) (handed : List Claimed) → IsAwaiting of handed self.old
+        requires { (of : Begun) × (handed : List Claimed) × IsAwaiting of handed self.old }
+        ensures { (of : Begun) (handed : List Claimed) → IsAwaiting of handed self.old
             → OnOk result (IsKnownOf of handed self.new.progress) }
     {
         if self.window.events().is_empty() {
@@ -69,7 +67,7 @@ impl Judge {
         start: &Companion,
         past: &mut P,
     ) -> Result<(), Memory>
-        ensures known { (of : Beginning) (handed : List Claimed) → IsKnownOf of handed self.old.progress
+        ensures known { (of : Begun) (handed : List Claimed) → IsKnownOf of handed self.old.progress
             → OnOk result (IsAwaiting of handed self.new) }
         ensures emptied { OnOk result (window_view self.new.window ≡ []) }
     {

@@ -1,7 +1,7 @@
 ghost use Rattle.std.specs.Prelude.{◌≡◌, ◌≢◌, ◌⊎◌, ◌<◌, ℕ, List, Option, Ok, [], false};
 ghost use Rattle.std.specs.Prelude.{IfErr, IfOk, OnOk};
 ghost use Rattle.audit_input.specs.Texts.{TellsCharges};
-ghost use Rattle.cfs_model.specs.Knobs.{KnobsView};
+ghost use Rattle.stream_audit.specs.Aim.{AimView};
 ghost use Rattle.cfs_model.specs.declared.act.Entry.{Entry as Event};
 ghost use Rattle.sched_record.specs.Trace.{TraceAnswer};
 ghost use Rattle.stream_audit.specs.Companion.{IsFedBy};
@@ -12,9 +12,9 @@ ghost use Rattle.stream_audit.specs.Listening.{HasHeardNothing};
 use crate::course::{Closing, Course};
 use crate::intake::Intake;
 use crate::listener::Listener;
-use crate::{Ending, Hearing, Judge, Past, Sizes, StreamOutcome};
+use crate::{Aim, Ending, Hearing, Judge, Past, Sizes, StreamOutcome};
 use audit_input::{Fault, Feed, Refused};
-use cfs_model::{Knobs, Memory};
+use cfs_model::Memory;
 use entry_reader::EntryReader;
 use pid_table::PidHasher;
 use sched_record::one_trace_answer;
@@ -31,21 +31,21 @@ pub fn judge_stream<R: RandomSource + Threads + Sync, T: Feed, C: Feed + Send, P
     alloc: Global,
     trace: &mut T,
     companion: &mut C,
-    knobs: Knobs,
+    aim: Aim,
     sizes: Sizes,
     past: &mut P,
 ) -> Result<Hearing, Fault>
     // No read was made yet.
     requires trace { T.calls trace.old ≡ 0 }
     requires companion { C.calls companion.old ≡ 0 }
-    ensures outcome { IfOk result (IsHearingOf knobs (T.left trace.old) (C.left companion.old)) }
+    ensures outcome { IfOk result (IsHearingOf aim (T.left trace.old) (C.left companion.old)) }
     ensures reads { ReadsBoth
         (input_of (T.left trace.new) (T.calls trace.new) (T.has_failed trace.new) (T.has_ended trace.new))
         (input_of (C.left companion.new) (C.calls companion.new) (C.has_failed companion.new)
         (C.has_ended companion.new)) result }
     ensures unwritten { IfErr result (λ fault. fault ≢ Fault.Write) }
 {
-    let mut listener = Listener::new(alloc, knobs, sizes, PidHasher::random(rt));
+    let mut listener = Listener::new(alloc, aim, sizes, PidHasher::random(rt));
     hear(rt, alloc, trace, companion, &mut listener, past)
 }
 
@@ -60,11 +60,11 @@ fn hear<R: Threads + Sync, T: Feed, C: Feed + Send, P: Past>(
 ) -> Result<Hearing, Fault>
     requires trace { T.calls trace.old ≡ 0 }
     requires companion { C.calls companion.old ≡ 0 }
-    requires nothing { (knobs : KnobsView) × HasHeardNothing knobs listener.old }
+    requires nothing { (aim : AimView) × HasHeardNothing aim listener.old }
     requires unread { listener.old.intake.blocks.reads ≡ 0 }
     requires unfed { IsFedBy 0 false false listener.old.intake.course.companion }
-    ensures outcome { (knobs : KnobsView) → HasHeardNothing knobs listener.old
-        → IfOk result (IsHearingOf knobs (T.left trace.old) (C.left companion.old)) }
+    ensures outcome { (aim : AimView) → HasHeardNothing aim listener.old
+        → IfOk result (IsHearingOf aim (T.left trace.old) (C.left companion.old)) }
     ensures reads { ReadsBoth
         (input_of (T.left trace.new) (T.calls trace.new) (T.has_failed trace.new) (T.has_ended trace.new))
         (input_of (C.left companion.new) (C.calls companion.new) (C.has_failed companion.new)
@@ -98,7 +98,7 @@ fn hearing_of(
 ) -> Result<Hearing, Memory>
     requires { (bytes : List ℕ) × (text : List ℕ) × AreBothDone trace.now course.old judge bytes text }
     ensures { (bytes : List ℕ) (text : List ℕ) → AreBothDone trace.now course.old judge bytes text
-        → IfOk result (λ hearing. IsOutcome course.old.knobs bytes text hearing.outcome
+        → IfOk result (λ hearing. IsOutcome course.old.aim bytes text hearing.outcome
         × TellsCharges text hearing.tells_charges) }
 {
     let tells_charges = course.tells_charges();
@@ -118,7 +118,7 @@ fn outcome_of_both(
 ) -> Result<StreamOutcome, Memory>
     requires { (bytes : List ℕ) × (text : List ℕ) × AreBothDone trace.now course.old judge bytes text }
     ensures { (bytes : List ℕ) (text : List ℕ) → AreBothDone trace.now course.old judge bytes text
-        → IfOk result (IsOutcome course.old.knobs bytes text) }
+        → IfOk result (IsOutcome course.old.aim bytes text) }
 {
     one_trace_answer();
     match trace.finish() {
@@ -129,11 +129,11 @@ fn outcome_of_both(
 
 /// What a trace that can be read and a companion come to.
 fn outcome_of(closing: Closing) -> Result<StreamOutcome, Memory>
-    ensures { (knobs : KnobsView) (trace companion : List ℕ) (events : List Event) → TraceAnswer trace (Ok events)
-        → IsClosingOf knobs companion events closing → IfOk result (IsOutcome knobs trace companion) }
+    ensures { (aim : AimView) (trace companion : List ℕ) (events : List Event) → TraceAnswer trace (Ok events)
+        → IsClosingOf aim companion events closing → IfOk result (IsOutcome aim trace companion) }
 {
     match closing {
-        Closing::Joined(Ending::Judged(verdict)) => Ok(StreamOutcome::Judged(verdict)),
+        Closing::Joined(Ending::Judged(finding)) => Ok(StreamOutcome::Judged(finding)),
         Closing::Joined(Ending::Apart(fault)) => refused(fault.into()),
         Closing::Refused(fault) => refused(fault.into()),
     }
@@ -141,8 +141,8 @@ fn outcome_of(closing: Closing) -> Result<StreamOutcome, Memory>
 
 /// A text is refused.
 fn refused(refused: Refused) -> Result<StreamOutcome, Memory>
-    ensures { (knobs : KnobsView) (trace companion : List ℕ) → IsRefusalOf trace companion refused
-        → IfOk result (IsOutcome knobs trace companion) }
+    ensures { (aim : AimView) (trace companion : List ℕ) → IsRefusalOf trace companion refused
+        → IfOk result (IsOutcome aim trace companion) }
 {
     match refused {
         Refused::Text {

@@ -2,6 +2,7 @@
 //! the next block is read.
 #![tactic(auto)]
 
+mod aim;
 mod beside;
 mod companion_input;
 mod course;
@@ -16,6 +17,7 @@ mod past;
 mod progress;
 mod sizes;
 
+pub use aim::Aim;
 pub use ending::Ending;
 pub use hearing::{Hearing, StreamOutcome};
 pub use joined_events::JoinedEvents;

@@ -3,7 +3,7 @@ ghost use Rattle.std.specs.Prelude.{IfErr, IfOk, OnOk, drop, length};
 ghost use Rattle.std.specs.Thread.{IsSync};
 ghost use Rattle.audit_input.specs.Known.{IsCutShort, most_reads};
 ghost use Rattle.cfs_model.specs.Claimed.{Claimed};
-ghost use Rattle.cfs_model.specs.Knobs.{KnobsView};
+ghost use Rattle.stream_audit.specs.Aim.{AimView};
 ghost use Rattle.stream_audit.specs.Companion.{IsFedBy};
 ghost use Rattle.stream_audit.specs.Course.{AreJudged, IsCalm, IsIdle, WereJudged};
 ghost use Rattle.stream_audit.specs.Hearing.{IsHeard, IsPending, IsReady, input_of};
@@ -13,9 +13,9 @@ ghost use Rattle.stream_audit.specs.declared.course.Course.{Course as CourseOf};
 
 use crate::course::judge_waiting;
 use crate::intake::Intake;
-use crate::{Judge, Past, Sizes};
+use crate::{Aim, Judge, Past, Sizes};
 use audit_input::{Fault, Feed};
-use cfs_model::{Knobs, Memory};
+use cfs_model::Memory;
 use pid_table::PidHasher;
 use std::alloc::Global;
 use std::thread::{Threads, join_mut};
@@ -34,13 +34,13 @@ pub(crate) struct Listener {
 
 impl Listener {
     /// Before the first read. Pids are hashed by these keys.
-    pub fn new(alloc: Global, knobs: Knobs, sizes: Sizes, hasher: PidHasher) -> Listener
-        ensures under_way { HasHeardNothing knobs result }
+    pub fn new(alloc: Global, aim: Aim, sizes: Sizes, hasher: PidHasher) -> Listener
+        ensures under_way { HasHeardNothing aim result }
         ensures reads { result.intake.blocks.reads ≡ 0 }
         ensures fed { IsFedBy 0 false false result.intake.course.companion }
     {
         Listener {
-            intake: Intake::new(alloc, knobs, sizes, hasher),
+            intake: Intake::new(alloc, aim, sizes, hasher),
             judge: None,
             ahead: sizes.reads_ahead(),
         }
@@ -56,15 +56,15 @@ impl Listener {
         companion: &mut C,
         past: &mut P,
     ) -> Result<bool, Fault>
-        requires under_way { (knobs : KnobsView) × (trace_gave : Option (List ℕ)) × (gave : Option (List ℕ))
-            × IsUnderWay knobs trace_gave (T.left trace.old) gave (C.left companion.old) self.old true }
+        requires under_way { (aim : AimView) × (trace_gave : Option (List ℕ)) × (gave : Option (List ℕ))
+            × IsUnderWay aim trace_gave (T.left trace.old) gave (C.left companion.old) self.old true }
         requires read { IsReadBy (T.left trace.old) (T.calls trace.old) (T.has_failed trace.old)
             (T.has_ended trace.old) self.old.intake.blocks true }
         requires fed { IsFedBy (C.calls companion.old) (C.has_ended companion.old) (C.has_failed companion.old)
             self.old.intake.course.companion }
-        ensures under_way { (knobs : KnobsView) (trace_gave : Option (List ℕ)) (gave : Option (List ℕ))
-            → IsUnderWay knobs trace_gave (T.left trace.old) gave (C.left companion.old) self.old true
-            → IfOk result (IsUnderWay knobs trace_gave (T.left trace.new) gave (C.left companion.new) self.new) }
+        ensures under_way { (aim : AimView) (trace_gave : Option (List ℕ)) (gave : Option (List ℕ))
+            → IsUnderWay aim trace_gave (T.left trace.old) gave (C.left companion.old) self.old true
+            → IfOk result (IsUnderWay aim trace_gave (T.left trace.new) gave (C.left companion.new) self.new) }
         ensures read { IfOk result (IsReadBy (T.left trace.new) (T.calls trace.new) (T.has_failed trace.new)
             (T.has_ended trace.new) self.new.intake.blocks) }
         ensures read_on { OnOk result (self.old.intake.blocks.reads < self.new.intake.blocks.reads) }
@@ -114,15 +114,15 @@ impl Listener {
     ) -> Result<(), Memory>
         requires calm { calm ≡ false → IsCalm self.old.intake.course → ⊥ }
         requires next { self.old.intake.next ≤ length self.old.intake.events.items }
-        requires ready { (knobs : KnobsView) × (gave : Option (List ℕ)) × (left : Option (List ℕ)) × (bytes : List ℕ)
-            × (handed : List Claimed) × IsReady knobs gave left bytes self.old.intake.reader self.old.intake.course
+        requires ready { (aim : AimView) × (gave : Option (List ℕ)) × (left : Option (List ℕ)) × (bytes : List ℕ)
+            × (handed : List Claimed) × IsReady aim gave left bytes self.old.intake.reader self.old.intake.course
             handed (drop self.old.intake.next self.old.intake.events.items)
             × WereJudged self.old.intake.course handed self.old.judge }
-        ensures heard { (knobs : KnobsView) (gave : Option (List ℕ)) (left : Option (List ℕ)) (bytes : List ℕ)
-            (handed : List Claimed) → IsReady knobs gave left bytes self.old.intake.reader self.old.intake.course
+        ensures heard { (aim : AimView) (gave : Option (List ℕ)) (left : Option (List ℕ)) (bytes : List ℕ)
+            (handed : List Claimed) → IsReady aim gave left bytes self.old.intake.reader self.old.intake.course
             handed (drop self.old.intake.next self.old.intake.events.items)
             → WereJudged self.old.intake.course handed self.old.judge
-            → OnOk result (IsHeard knobs gave left bytes self.new.intake.reader self.new.intake.course
+            → OnOk result (IsHeard aim gave left bytes self.new.intake.reader self.new.intake.course
             self.new.judge) }
         ensures reader { self.new.intake.reader ≡ self.old.intake.reader }
         ensures blocks { self.new.intake.blocks ≡ self.old.intake.blocks }
@@ -144,15 +144,15 @@ impl Listener {
         companion: &mut C,
         past: &mut P,
     ) -> Result<(), Fault>
-        requires pending { (knobs : KnobsView) × (gave : Option (List ℕ)) × (bytes : List ℕ) × (handed : List Claimed)
-            × IsPending knobs gave (C.left companion.old) bytes self.old.intake.reader self.old.intake.course handed
+        requires pending { (aim : AimView) × (gave : Option (List ℕ)) × (bytes : List ℕ) × (handed : List Claimed)
+            × IsPending aim gave (C.left companion.old) bytes self.old.intake.reader self.old.intake.course handed
             self.old.intake.events.items × AreJudged self.old.intake.course handed self.old.judge }
         requires fed { IsFedBy (C.calls companion.old) (C.has_ended companion.old) (C.has_failed companion.old)
             self.old.intake.course.companion }
-        ensures heard { (knobs : KnobsView) (gave : Option (List ℕ)) (bytes : List ℕ) (handed : List Claimed)
-            → IsPending knobs gave (C.left companion.old) bytes self.old.intake.reader self.old.intake.course handed
+        ensures heard { (aim : AimView) (gave : Option (List ℕ)) (bytes : List ℕ) (handed : List Claimed)
+            → IsPending aim gave (C.left companion.old) bytes self.old.intake.reader self.old.intake.course handed
             self.old.intake.events.items → AreJudged self.old.intake.course handed self.old.judge
-            → OnOk result (IsHeard knobs gave (C.left companion.new) bytes self.new.intake.reader
+            → OnOk result (IsHeard aim gave (C.left companion.new) bytes self.new.intake.reader
             self.new.intake.course self.new.judge) }
         ensures reader { self.new.intake.reader ≡ self.old.intake.reader }
         ensures idle { OnOk result (IsIdle self.new.judge) }
@@ -178,15 +178,15 @@ impl Listener {
         companion: &mut C,
         past: &mut P,
     ) -> Result<(), Fault>
-        requires pending { (knobs : KnobsView) × (gave : Option (List ℕ)) × (bytes : List ℕ) × (handed : List Claimed)
-            × IsPending knobs gave (C.left companion.old) bytes self.old.intake.reader self.old.intake.course handed
+        requires pending { (aim : AimView) × (gave : Option (List ℕ)) × (bytes : List ℕ) × (handed : List Claimed)
+            × IsPending aim gave (C.left companion.old) bytes self.old.intake.reader self.old.intake.course handed
             self.old.intake.events.items × AreJudged self.old.intake.course handed self.old.judge }
         requires fed { IsFedBy (C.calls companion.old) (C.has_ended companion.old) (C.has_failed companion.old)
             self.old.intake.course.companion }
-        ensures heard { (knobs : KnobsView) (gave : Option (List ℕ)) (bytes : List ℕ) (handed : List Claimed)
-            → IsPending knobs gave (C.left companion.old) bytes self.old.intake.reader self.old.intake.course handed
+        ensures heard { (aim : AimView) (gave : Option (List ℕ)) (bytes : List ℕ) (handed : List Claimed)
+            → IsPending aim gave (C.left companion.old) bytes self.old.intake.reader self.old.intake.course handed
             self.old.intake.events.items → AreJudged self.old.intake.course handed self.old.judge
-            → OnOk result (IsHeard knobs gave (C.left companion.new) bytes self.new.intake.reader
+            → OnOk result (IsHeard aim gave (C.left companion.new) bytes self.new.intake.reader
             self.new.intake.course self.new.judge) }
         ensures reader { self.new.intake.reader ≡ self.old.intake.reader }
         ensures fed { OnOk result (IsFedBy (C.calls companion.new) (C.has_ended companion.new)
@@ -218,19 +218,19 @@ fn judge_and_come<R: Threads + Sync, T: Feed, C: Feed + Send>(
 ) -> (Result<(), Memory>, Result<bool, Fault>)
     requires judged { calm ≡ true → (course : CourseOf) × (handed : List Claimed) × IsCalm course
         × AreJudged course handed judge.old }
-    requires coming { (knobs : KnobsView) × (trace_gave : Option (List ℕ)) × (gave : Option (List ℕ))
+    requires coming { (aim : AimView) × (trace_gave : Option (List ℕ)) × (gave : Option (List ℕ))
         × (handed : List Claimed)
-        × IsComing knobs trace_gave (T.left trace.old) gave (C.left companion.old) intake.old handed }
+        × IsComing aim trace_gave (T.left trace.old) gave (C.left companion.old) intake.old handed }
     requires read { IsReadBy (T.left trace.old) (T.calls trace.old) (T.has_failed trace.old)
         (T.has_ended trace.old) intake.old.blocks true }
     requires fed { IsFedBy (C.calls companion.old) (C.has_ended companion.old) (C.has_failed companion.old)
         intake.old.course.companion }
     ensures judged { (course : CourseOf) (handed : List Claimed) → (IsCalm course → calm ≡ true)
         → AreJudged course handed judge.old → OnOk result.0 (WereJudged course handed judge.new) }
-    ensures came { (knobs : KnobsView) (trace_gave : Option (List ℕ)) (gave : Option (List ℕ))
+    ensures came { (aim : AimView) (trace_gave : Option (List ℕ)) (gave : Option (List ℕ))
         (handed : List Claimed)
-        → IsComing knobs trace_gave (T.left trace.old) gave (C.left companion.old) intake.old handed
-        → IfOk result.1 (HasCome knobs trace_gave (T.left trace.new) gave (C.left companion.new) intake.old.course
+        → IsComing aim trace_gave (T.left trace.old) gave (C.left companion.old) intake.old handed
+        → IfOk result.1 (HasCome aim trace_gave (T.left trace.new) gave (C.left companion.new) intake.old.course
         intake.new handed) }
     ensures read { IfOk result.1 (IsReadBy (T.left trace.new) (T.calls trace.new) (T.has_failed trace.new)
         (T.has_ended trace.new) intake.new.blocks) }
@@ -260,18 +260,18 @@ fn judge_and_come<R: Threads + Sync, T: Feed, C: Feed + Send>(
         { judge_waiting(rt, alloc, calm, judge) },
         &mut ||
             requires sync { IsSync R.row }
-            requires coming { (knobs : KnobsView) × (trace_gave : Option (List ℕ)) × (gave : Option (List ℕ))
+            requires coming { (aim : AimView) × (trace_gave : Option (List ℕ)) × (gave : Option (List ℕ))
                 × (handed : List Claimed)
-                × IsComing knobs trace_gave (T.left trace.now) gave (C.left companion.now) intake.now handed }
+                × IsComing aim trace_gave (T.left trace.now) gave (C.left companion.now) intake.now handed }
             requires read { IsReadBy (T.left trace.now) (T.calls trace.now) (T.has_failed trace.now)
                 (T.has_ended trace.now) intake.now.blocks true }
             requires fed { IsFedBy (C.calls companion.now) (C.has_ended companion.now) (C.has_failed companion.now)
                 intake.now.course.companion }
-            ensures came { (knobs : KnobsView) (trace_gave : Option (List ℕ)) (gave : Option (List ℕ))
+            ensures came { (aim : AimView) (trace_gave : Option (List ℕ)) (gave : Option (List ℕ))
                 (handed : List Claimed)
-                → IsComing knobs trace_gave (T.left trace.entry.now) gave (C.left companion.entry.now) intake.entry.now
+                → IsComing aim trace_gave (T.left trace.entry.now) gave (C.left companion.entry.now) intake.entry.now
                 handed
-                → IfOk result (HasCome knobs trace_gave (T.left trace.exit.now) gave (C.left companion.exit.now)
+                → IfOk result (HasCome aim trace_gave (T.left trace.exit.now) gave (C.left companion.exit.now)
                 intake.entry.now.course intake.exit.now handed) }
             ensures read { IfOk result (IsReadBy (T.left trace.exit.now) (T.calls trace.exit.now)
                 (T.has_failed trace.exit.now) (T.has_ended trace.exit.now) intake.exit.now.blocks) }

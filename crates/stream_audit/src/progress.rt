@@ -1,15 +1,18 @@
 ghost use Rattle.std.specs.Prelude.{◌≢◌, ◌++◌, List, [], IfOk, OnOk};
 ghost use Rattle.cfs_model.specs.Claimed.{Claimed};
-ghost use Rattle.cfs_model.specs.Knobs.{KnobsView};
+ghost use Rattle.least_places.specs.Finding.{IsFinding};
 ghost use Rattle.sched_record.specs.Record.{RecordView};
 ghost use Rattle.sched_record.specs.Window.{window_view};
-ghost use Rattle.ticket_book.specs.Verdict.{IsVerdict};
-ghost use Rattle.window_audit.specs.Audit.{Beginning};
-ghost use Rattle.stream_audit.specs.Progress.{IsEnd, IsKnownOf, IsNext};
+ghost use Rattle.stream_audit.specs.Aim.{Begun};
+ghost use Rattle.stream_audit.specs.Judge.{begun};
+ghost use Rattle.stream_audit.specs.Progress.{IsEnd, IsKnownOf, IsNext, IsToldWith};
 
-use crate::Past;
-use cfs_model::Memory;
+use crate::{Aim, Past};
+use cfs_model::{Memory, least_settings};
 use companion_file::Companion;
+use least_audit::LeastAudit;
+use least_places::{Finding, LeastFigures};
+use pid_table::PidHasher;
 use queue_replay::WindowedReplay;
 use replay_laws::first_faults;
 use replay_model::FirstFault;
@@ -25,11 +28,30 @@ use window_laws::windows;
 pub enum Progress {
     /// They are a run, with which the audit goes on.
     Running(WindowAudit),
+    /// The same, and their least settings are known.
+    Pursuing(LeastAudit),
     /// They are none: their first fault.
     Told(FirstFault),
 }
 
 impl Progress {
+    /// Before the first event of a record that begins so. Pids are hashed by these keys.
+    pub fn new(
+        alloc: Global,
+        start: &Companion,
+        aim: Aim,
+        hasher: PidHasher,
+    ) -> Result<Progress, Memory>
+        ensures { IfOk result (IsKnownOf (begun aim start.now) []) }
+    {
+        if aim.is_least() {
+            let audit = LeastAudit::new(alloc, start, hasher)?;
+            return Ok(Progress::Pursuing(audit));
+        }
+        let audit = WindowAudit::new(alloc, start, aim.knobs(), hasher)?;
+        Ok(Progress::Running(audit))
+    }
+
     /// Takes the events of a window into account, which has at least one.
     pub fn judge<R: Threads + Sync>(
         &mut self,
@@ -38,21 +60,36 @@ impl Progress {
         window: &Window,
     ) -> Result<(), Memory>
         requires some { window_view window.now ≢ [] }
-        requires next { (of : Beginning) × (so_far : List Claimed)
+        requires next { (of : Begun) × (so_far : List Claimed)
             × IsNext of so_far (window_view window.now) self.old }
-        ensures { (of : Beginning) (so_far : List Claimed) → IsNext of so_far (window_view window.now) self.old
+        ensures { (of : Begun) (so_far : List Claimed) → IsNext of so_far (window_view window.now) self.old
             → OnOk result (IsKnownOf of (so_far ++ window_view window.now) self.new) }
+    {
+        if let Some(fault) = self.go_on(rt, alloc, window)? {
+            *self = Progress::Told(fault);
+        }
+        Ok(())
+    }
+
+    /// Lets an audit that goes on go through a window, and tells the first fault of the events with it, if there is
+    /// one.
+    fn go_on<R: Threads + Sync>(
+        &mut self,
+        rt: &R,
+        alloc: Global,
+        window: &Window,
+    ) -> Result<Option<FirstFault>, Memory>
+        requires some { window_view window.now ≢ [] }
+        requires next { (of : Begun) × (so_far : List Claimed)
+            × IsNext of so_far (window_view window.now) self.old }
+        ensures { (of : Begun) (so_far : List Claimed) → IsNext of so_far (window_view window.now) self.old
+            → IfOk result (λ told. IsToldWith of (so_far ++ window_view window.now) told self.new) }
     {
         windows();
         match self {
-            Progress::Running(audit) => match audit.go_through(rt, alloc, window)? {
-                Some(fault) => {
-                    *self = Progress::Told(fault);
-                    Ok(())
-                }
-                None => Ok(()),
-            },
-            Progress::Told(_) => Ok(()),
+            Progress::Running(audit) => audit.go_through(rt, alloc, window),
+            Progress::Pursuing(audit) => audit.go_through(rt, alloc, window),
+            Progress::Told(_) => Ok(None),
         }
     }
 
@@ -64,8 +101,8 @@ impl Progress {
         start: &Companion,
         past: &mut P,
     ) -> Result<(), Memory> {
-        match self {
-            Progress::Running(audit) if past.goes_on() => {
+        match self.audit() {
+            Some(audit) if past.goes_on() => {
                 let replays = replays_of(alloc, audit, start.cpus())?;
                 past.begin(start, replays.as_slice())
             }
@@ -81,25 +118,41 @@ impl Progress {
         window: &mut Window,
         past: &mut P,
     ) -> Result<(), Memory> {
-        match self {
-            Progress::Running(audit) if past.goes_on() => {
+        if let Progress::Told(fault) = self {
+            return past.take_last(start, window, *fault);
+        }
+        match self.audit() {
+            Some(audit) if past.goes_on() => {
                 let replays = replays_of(alloc, audit, start.cpus())?;
                 past.take_window(replays.as_slice(), window)
             }
-            Progress::Running(_) => Ok(()),
-            Progress::Told(fault) => past.take_last(start, window, *fault),
+            _ => Ok(()),
         }
     }
 
-    /// The verdict on the record whose events these are.
-    pub fn finish(self, alloc: Global) -> Result<Verdict, Memory>
-        requires { (knobs : KnobsView) × (r : RecordView) × IsEnd knobs r self }
-        ensures { (knobs : KnobsView) (r : RecordView) → IsEnd knobs r self → IfOk result (IsVerdict knobs r) }
+    /// The audit that goes on, if one does.
+    fn audit(&self) -> Option<&WindowAudit> {
+        match self {
+            Progress::Running(audit) => Some(audit),
+            Progress::Pursuing(audit) => Some(audit.audit()),
+            Progress::Told(_) => None,
+        }
+    }
+
+    /// What is found of the record whose events these are.
+    pub fn finish(self, alloc: Global, aim: Aim) -> Result<Finding, Memory>
+        requires { (r : RecordView) × IsEnd aim r self }
+        ensures { (r : RecordView) → IsEnd aim r self → IfOk result (IsFinding aim.least aim.knobs r) }
     {
         first_faults();
+        least_settings();
         match self {
-            Progress::Running(audit) => Ok(Verdict::Run(audit.finish(alloc)?)),
-            Progress::Told(fault) => Ok(Verdict::Fault(fault)),
+            Progress::Running(audit) => Ok(Finding::Verdict(Verdict::Run(audit.finish(alloc)?))),
+            Progress::Pursuing(audit) => Ok(Finding::Least(audit.finish())),
+            Progress::Told(fault) if aim.is_least() => Ok(Finding::Least(LeastFigures::Fault(
+                fault,
+            ))),
+            Progress::Told(fault) => Ok(Finding::Verdict(Verdict::Fault(fault))),
         }
     }
 }

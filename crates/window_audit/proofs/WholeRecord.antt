@@ -34,7 +34,7 @@ nothing zero = refl
 nothing (suc n) = refl
 
 -- a front, and of what is behind it a front
-join_take : (i m : ℕ) (xs : List Claimed) → take i xs ++ take m (drop i xs) ≡ take (i + m) xs
+pub join_take : (i m : ℕ) (xs : List Claimed) → take i xs ++ take m (drop i xs) ≡ take (i + m) xs
 join_take zero m xs = let e : m ≡ zero + m = omega arith in ap (λ n. take n xs) e
 join_take (suc i) zero [] = nothing (suc i + zero)
 join_take (suc i) (suc m) [] = nothing (suc i + suc m)

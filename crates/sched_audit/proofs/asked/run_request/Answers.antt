@@ -7,7 +7,7 @@ returns-in-true-default-true g c =
 
 pub returns-in-true-default-false : goal.returns-in-true-default-false
 returns-in-true-default-false g c =
-    rw (c.in-true-default-false.is-0, c.in-true-default-false.is-2) c.run_least.ensures
+    rw (c.in-true-default-false.is-0, c.in-true-default-false.is-2) c.run_least_in_blocks.ensures
 
 pub returns-in-false-true-true : goal.returns-in-false-true-true
 returns-in-false-true-true g c =

@@ -7,7 +7,7 @@ use Rattle.stream_audit.proofs.course.judge_or_first.Goals as goal
 
 pub returns-in-Some : goal.returns-in-Some
 returns-in-Some c = λ handed idle awaiting.
-    let of = begun c.args.knobs c.args.joined.now.start in
+    let of = begun c.args.aim c.args.joined.now.start in
     let judge = c.in-Some.judge in
     all_known of handed judge
     (at_some (handed ≡ []) (IsAwaiting of handed) c.args.judge judge c.in-Some.is awaiting)

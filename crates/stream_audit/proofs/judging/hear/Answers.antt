@@ -31,7 +31,7 @@ loop-goes_on-init g c =
         heard = companion.heard;
       };
       taken = λ e. cc;
-      under_way = λ knobs nothing. nothing (g.T.Feed.left c.args.trace.now) (g.C.Feed.left c.args.companion.now);
+      under_way = λ aim nothing. nothing (g.T.Feed.left c.args.trace.now) (g.C.Feed.left c.args.companion.now);
     }
 
 pub go_on-requires-clause-under_way : goal.go_on-requires-clause-under_way
@@ -57,9 +57,9 @@ loop-goes_on-preserved g c =
       read = went.read;
       fed = went.fed;
       taken = λ ended. went.taken;
-      under_way = λ knobs nothing. went.under_way knobs _ _
+      under_way = λ aim nothing. went.under_way aim _ _
           (still_under_way _ _ _ _ _ c.loop-goes_on.listener _ c.loop-goes_on-test.true
-          (c.loop-goes_on.invariant.under_way knobs nothing));
+          (c.loop-goes_on.invariant.under_way aim nothing));
     }
 
 pub returns-in_err-goes_on-clause-reads : goal.returns-in_err-goes_on-clause-reads
@@ -74,9 +74,9 @@ returns-in_err-goes_on-clause-unwritten g c =
 
 pub read_rest-requires-clause-pending : goal.read_rest-requires-clause-pending
 read_rest-requires-clause-pending g c κs within =
-    let knobs = c.requires.nothing.0 in
-    let under = c.loop-goes_on.invariant.under_way knobs c.requires.nothing.1 in
-    (knobs, g.C.Feed.left c.args.companion.now, under.bytes, under.handed, under.pending, under.judged)
+    let aim = c.requires.nothing.0 in
+    let under = c.loop-goes_on.invariant.under_way aim c.requires.nothing.1 in
+    (aim, g.C.Feed.left c.args.companion.now, under.bytes, under.handed, under.pending, under.judged)
 
 pub read_rest-requires-clause-fed : goal.read_rest-requires-clause-fed
 read_rest-requires-clause-fed g c κs within = c.loop-goes_on.invariant.fed
@@ -100,59 +100,59 @@ returns-in_err-read_rest-clause-unwritten g c =
 
 pub hearing_of-requires : goal.hearing_of-requires
 hearing_of-requires g c =
-    let knobs = c.requires.nothing.0 in
-    let under = c.loop-goes_on.invariant.under_way knobs c.requires.nothing.1 in
+    let aim = c.requires.nothing.0 in
+    let under = c.loop-goes_on.invariant.under_way aim c.requires.nothing.1 in
     let rest = c.in_ok-read_rest.ensures in
     let gave = g.C.Feed.left c.args.companion.now in
     let listener = c.read_rest.new.self in
     let reader = listener.intake.reader in
     let course = listener.intake.course in
-    let heard = rest.heard knobs gave under.bytes under.handed under.pending under.judged in (
+    let heard = rest.heard aim gave under.bytes under.handed under.pending under.judged in (
       under.bytes,
-      text_of knobs gave _ reader course listener.judge under.bytes heard rest.done,
+      text_of aim gave _ reader course listener.judge under.bytes heard rest.done,
       subst (λ (j : Option Judge). AreBothDone reader course j under.bytes
-          (text_of knobs gave _ reader course listener.judge under.bytes heard rest.done))
+          (text_of aim gave _ reader course listener.judge under.bytes heard rest.done))
           (sym c.take-judge.ensures.value)
-          (both_done knobs gave _ reader course listener.judge under.bytes heard rest.done
+          (both_done aim gave _ reader course listener.judge under.bytes heard rest.done
           (subst (λ (r : EntryReader). IsNone r.bad → entries_of r ≡ []) (sym rest.reader)
           (c.loop-goes_on.invariant.taken c.loop-goes_on-test.false)) rest.idle),
     )
 
 pub returns-clause-outcome : goal.returns-clause-outcome
-returns-clause-outcome g c = λ knobs nothing.
-    let under = c.loop-goes_on.invariant.under_way knobs nothing in
+returns-clause-outcome g c = λ aim nothing.
+    let under = c.loop-goes_on.invariant.under_way aim nothing in
     let rest = c.in_ok-read_rest.ensures in
     let gave = g.C.Feed.left c.args.companion.now in
     let listener = c.read_rest.new.self in
     let reader = listener.intake.reader in
     let course = listener.intake.course in
-    let heard = rest.heard knobs gave under.bytes under.handed under.pending under.judged in
-    hearing_is knobs gave _ reader course listener.judge under.bytes heard rest.done _ _
+    let heard = rest.heard aim gave under.bytes under.handed under.pending under.judged in
+    hearing_is aim gave _ reader course listener.judge under.bytes heard rest.done _ _
     (all_that_came ReadsEntries _ _ c.loop-goes_on.listener.intake.blocks under.bytes c.loop-goes_on.goes_on
     c.loop-goes_on-test.false under.stands)
     (c.in_ok-hearing_of.ensures under.bytes
-    (text_of knobs gave _ reader course listener.judge under.bytes heard rest.done)
+    (text_of aim gave _ reader course listener.judge under.bytes heard rest.done)
     (subst (λ (j : Option Judge). AreBothDone reader course j under.bytes
-    (text_of knobs gave _ reader course listener.judge under.bytes heard rest.done)) (sym c.take-judge.ensures.value)
-    (both_done knobs gave _ reader course listener.judge under.bytes heard rest.done
+    (text_of aim gave _ reader course listener.judge under.bytes heard rest.done)) (sym c.take-judge.ensures.value)
+    (both_done aim gave _ reader course listener.judge under.bytes heard rest.done
     (subst (λ (r : EntryReader). IsNone r.bad → entries_of r ≡ []) (sym rest.reader)
     (c.loop-goes_on.invariant.taken c.loop-goes_on-test.false)) rest.idle)))
 
 pub returns-clause-reads : goal.returns-clause-reads
 returns-clause-reads g c =
     let read = c.loop-goes_on.invariant.read in
-    let knobs = c.requires.nothing.0 in
-    let under = c.loop-goes_on.invariant.under_way knobs c.requires.nothing.1 in
+    let aim = c.requires.nothing.0 in
+    let under = c.loop-goes_on.invariant.under_way aim c.requires.nothing.1 in
     let rest = c.in_ok-read_rest.ensures in
     let gave = g.C.Feed.left c.args.companion.now in
     let listener = c.read_rest.new.self in
     let reader = listener.intake.reader in
     let course = listener.intake.course in
-    let heard = rest.heard knobs gave under.bytes under.handed under.pending under.judged in
+    let heard = rest.heard aim gave under.bytes under.handed under.pending under.judged in
     both_read _ _ _
     (read_to_end _ _ read.ended c.loop-goes_on-test.false, read_to_end _ _ rest.fed.ended rest.done) (
       read.at_end c.loop-goes_on-test.false,
-      none_left knobs gave _ reader course listener.judge under.bytes heard rest.done,
+      none_left aim gave _ reader course listener.judge under.bytes heard rest.done,
     ) (read.heard, rest.fed.heard) (
       subst (λ (n : ℕ). n ≤ most_reads) (sym read.counted) c.loop-goes_on.listener.intake.blocks.bounded,
       few_reads _ _ _ course.companion rest.fed,

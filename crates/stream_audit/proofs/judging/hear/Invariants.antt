@@ -3,7 +3,7 @@
 use Rattle.std.proofs.Common.{◌≡◌, ◌-◌, false}
 use Rattle.audit_input.specs.Known.{most_reads}
 use Rattle.stream_audit.specs.Companion.{IsFedBy}
-use Rattle.cfs_model.specs.Knobs.{KnobsView}
+use Rattle.stream_audit.specs.Aim.{AimView}
 use Rattle.stream_audit.specs.Listening.{HasHeardNothing, IsReadBy, IsTakenOut, IsUnderWay}
 use Rattle.stream_audit.proofs.judging.hear.Given as goal
 
@@ -17,8 +17,8 @@ invariant-loop-goes_on g l =
       fed : IsFedBy (companion.calls l.companion) (companion.has_ended l.companion) (companion.has_failed l.companion)
           l.listener.intake.course.companion;
       taken : l.goes_on ≡ false → IsTakenOut l.listener.intake;
-      under_way : (knobs : KnobsView) → HasHeardNothing knobs l.fn.listener
-          → IsUnderWay knobs (trace.left l.fn.trace) (trace.left l.trace) (companion.left l.fn.companion)
+      under_way : (aim : AimView) → HasHeardNothing aim l.fn.listener
+          → IsUnderWay aim (trace.left l.fn.trace) (trace.left l.trace) (companion.left l.fn.companion)
           (companion.left l.companion) l.listener l.goes_on;
     }
 

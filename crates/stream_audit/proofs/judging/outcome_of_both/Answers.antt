@@ -21,13 +21,13 @@ returns-in_ok-finish-in-Ok c = λ bytes text both.
     let trace = c.args.trace.now in
     let one = c.one_trace_answer.ensures in
     let ends = c.in-Ok.ensures (lines_of bytes) both.events both.has_read in
-    c.outcome_of.ensures c.args.course.now.knobs bytes text both.events
+    c.outcome_of.ensures c.args.course.now.aim bytes text both.events
     (trace_told one trace c.args.course.now c.args.judge bytes text both ends)
     (c.in_ok-finish-in-Ok.ensures text both.events
     (whole_course one trace c.args.course.now c.args.judge bytes text both ends))
 
 pub returns-in-Err : goal.returns-in-Err
 returns-in-Err c = λ bytes text both.
-    c.refused.ensures c.args.course.now.knobs bytes text (subst (IsRefusalOf bytes text) (sym c.into.ensures)
+    c.refused.ensures c.args.course.now.aim bytes text (subst (IsRefusalOf bytes text) (sym c.into.ensures)
     (trace_refused bytes text (both.events ++ entries_of c.args.trace.now) c.in-Err.fault
     (c.in-Err.ensures (lines_of bytes) both.events both.has_read)))

@@ -7,7 +7,7 @@ pub returns-in_ok-joined-clause-stays : goal.returns-in_ok-joined-clause-stays
 returns-in_ok-joined-clause-stays c = λ gave left said events handed so past.
     let course = c.args.self.now in
     let reader = course.companion.reader in
-    begins course.knobs gave left course said events handed c.in-Some.start c.in_ok-joined.joined so past
+    begins course.aim gave left course said events handed c.in-Some.start c.in_ok-joined.joined so past
     (sym c.is_some.ensures ∙ c.if-is_some.false)
     (start_told reader.bad said _ c.in-Some.start c.in-Some.is
     (c.in_ok-start.ensures (lines_of so.stands.done) said so.edge so.stands.read))

@@ -1,6 +1,7 @@
 use Rattle.std.proofs.Common.{◌≡◌, false, [], Option, ap, inl, sym, subst}
 use Rattle.std.specs.Prelude.{IsNone, MatchOption, is_some}
 use Rattle.companion_file.specs.Reader.{with_all_said}
+use Rattle.least_places.specs.Finding.{IsFinding}
 use Rattle.sched_record.specs.Join.{RecordAnswer, joined_record}
 use Rattle.sched_record.specs.Window.{window_view}
 use Rattle.sched_record.specs.declared.joining.JoinFault.{JoinFault}
@@ -9,8 +10,7 @@ use Rattle.stream_audit.specs.Course.{IsCalm}
 use Rattle.stream_audit.specs.Judge.{IsAwaiting, begun}
 use Rattle.stream_audit.specs.declared.companion_input.CompanionInput.{CompanionInput}
 use Rattle.stream_audit.specs.declared.joined_events.JoinedEvents.{JoinedEvents}
-use Rattle.cfs_model.specs.Knobs.{KnobsView}
-use Rattle.ticket_book.specs.Verdict.{IsVerdict}
+use Rattle.stream_audit.specs.Aim.{AimView}
 use Rattle.stream_audit.proofs.Calm.{at_some, begun_refusal, begun_start, calm_from, judged_stays}
 use Rattle.stream_audit.proofs.Joined.{at_end}
 use Rattle.stream_audit.proofs.Closed.{ends_begun, ends_good, ends_so, last_as}
@@ -23,7 +23,7 @@ finish-apart-requires c =
     let course = c.begin.new.self in
     let draft = course.companion.reader.draft in
     let joined = c.in-Some.joined in
-    let end = ends_so c.args.self.now.knobs c.args.self.now course c.requires.0 events c.args.judge joined w
+    let end = ends_so c.args.self.now.aim c.args.self.now course c.requires.0 events c.args.judge joined w
     c.in_default.ensures
     (c.in_ok-begin.ensures.stays w.gave w.left w.said events w.handed w.so_far (λ none. inl w.ended))
     c.in_ok-begin.ensures.companion c.in-Some.is in
@@ -40,8 +40,8 @@ unreachable-requires c =
     let events = c.requires.1 in
     let w = c.requires.2 in
     let self = c.args.self.now in
-    let good = ends_good self.knobs self c.requires.0 events c.args.judge w c.in_default.ensures in
-    ends_begun self.knobs self c.requires.0 events c.args.judge w c.in_default.ensures
+    let good = ends_good self.aim self c.requires.0 events c.args.judge w c.in_default.ensures in
+    ends_begun self.aim self c.requires.0 events c.args.judge w c.in_default.ensures
     (c.in_ok-begin.ensures.begun w.gave w.left w.said events w.handed w.so_far
     (subst (λ (input : CompanionInput). is_some input.reader.bad ≡ false) (sym c.in_ok-begin.ensures.companion) good)
     (ap (λ (o : Option JoinedEvents). is_some o) c.in-None.is))
@@ -51,7 +51,7 @@ returns-in-Some-apart c = λ text events w.
     let course = c.begin.new.self in
     let draft = course.companion.reader.draft in
     let joined = c.in-Some.joined in
-    let end = ends_so c.args.self.now.knobs c.args.self.now course text events c.args.judge joined w
+    let end = ends_so c.args.self.now.aim c.args.self.now course text events c.args.judge joined w
     c.in_default.ensures
     (c.in_ok-begin.ensures.stays w.gave w.left w.said events w.handed w.so_far (λ none. inl w.ended))
     c.in_ok-begin.ensures.companion c.in-Some.is in
@@ -64,8 +64,8 @@ returns-in-Some-apart c = λ text events w.
           c.nices.ensures c.charges.ensures end.last)),
     )
 
-pub verdict_of-requires : goal.verdict_of-requires
-verdict_of-requires c =
+pub finding_of-requires : goal.finding_of-requires
+finding_of-requires c =
     let events = c.requires.1 in
     let w = c.requires.2 in
     let first = c.args.self.now in
@@ -73,7 +73,7 @@ verdict_of-requires c =
     let draft = course.companion.reader.draft in
     let joined = c.in-Some.joined in
     let b = c.in_ok-begin.ensures in
-    let end = ends_so first.knobs first course c.requires.0 events c.args.judge joined w c.in_default.ensures
+    let end = ends_so first.aim first course c.requires.0 events c.args.judge joined w c.in_default.ensures
     (b.stays w.gave w.left w.said events w.handed w.so_far (λ none. inl w.ended)) b.companion c.in-Some.is in
     let of = with_all_said end.start end.said in
     let calm : is_refused joined.joining ≡ false = c.finish-apart.ensures.calm c.in_default-apart.is in
@@ -82,12 +82,12 @@ verdict_of-requires c =
       subst (λ (o : Option JoinedEvents). MatchOption o (Unit {0}) (λ j. is_refused j.joining ≡ false))
           (sym c.in-Some.is) calm,
     ) in
-    let settled = judged_stays first course w.handed c.args.judge b.knobs
+    let settled = judged_stays first course w.handed c.args.judge b.aim
     (calm_from first course (subst (λ (input : CompanionInput). IsNone input.reader.bad) b.companion)
     (begun_refusal first.joined course.joined b.same)) (begun_start first.joined course.joined b.same) w.judged still in
     let awaiting = at_some _ (λ from. MatchOption c.args.judge (w.handed ≡ [])
-    (λ j. IsAwaiting (begun course.knobs from.start) w.handed j)) course.joined joined c.in-Some.is settled in
-    let all = at_end of events w.handed draft.claims draft.nices draft.charges joined course.knobs
+    (λ j. IsAwaiting (begun course.aim from.start) w.handed j)) course.joined joined c.in-Some.is settled in
+    let all = at_end of events w.handed draft.claims draft.nices draft.charges joined course.aim
     c.in_ok-judge-in-Some.judge end.last (c.together.ensures joined.joining of events end.last.so_far.joining calm)
     (c.in_ok-judge-in-Some.ensures w.handed w.idle awaiting)
     (at_some (Unit {0}) (λ j. window_view j.window ≡ []) course.joined joined c.in-Some.is (b.handed_on w.handed_on)) in
@@ -100,7 +100,7 @@ returns c = λ text events w.
     let draft = course.companion.reader.draft in
     let joined = c.in-Some.joined in
     let b = c.in_ok-begin.ensures in
-    let end = ends_so first.knobs first course text events c.args.judge joined w c.in_default.ensures
+    let end = ends_so first.aim first course text events c.args.judge joined w c.in_default.ensures
     (b.stays w.gave w.left w.said events w.handed w.so_far (λ none. inl w.ended)) b.companion c.in-Some.is in
     let of = with_all_said end.start end.said in
     let calm : is_refused joined.joining ≡ false = c.finish-apart.ensures.calm c.in_default-apart.is in
@@ -109,12 +109,12 @@ returns c = λ text events w.
       subst (λ (o : Option JoinedEvents). MatchOption o (Unit {0}) (λ j. is_refused j.joining ≡ false))
           (sym c.in-Some.is) calm,
     ) in
-    let settled = judged_stays first course w.handed c.args.judge b.knobs
+    let settled = judged_stays first course w.handed c.args.judge b.aim
     (calm_from first course (subst (λ (input : CompanionInput). IsNone input.reader.bad) b.companion)
     (begun_refusal first.joined course.joined b.same)) (begun_start first.joined course.joined b.same) w.judged still in
     let awaiting = at_some _ (λ from. MatchOption c.args.judge (w.handed ≡ [])
-    (λ j. IsAwaiting (begun course.knobs from.start) w.handed j)) course.joined joined c.in-Some.is settled in
-    let all = at_end of events w.handed draft.claims draft.nices draft.charges joined course.knobs
+    (λ j. IsAwaiting (begun course.aim from.start) w.handed j)) course.joined joined c.in-Some.is settled in
+    let all = at_end of events w.handed draft.claims draft.nices draft.charges joined course.aim
     c.in_ok-judge-in-Some.judge end.last (c.together.ensures joined.joining of events end.last.so_far.joining calm)
     (c.in_ok-judge-in-Some.ensures w.handed w.idle awaiting)
     (at_some (Unit {0}) (λ j. window_view j.window ≡ []) course.joined joined c.in-Some.is
@@ -127,7 +127,8 @@ returns c = λ text events w.
             (c.finish-apart.ensures.answered of events w.handed
             (last_as of events w.handed joined draft.claims _ draft.nices _ draft.charges _ c.claims.ensures
             c.nices.ensures c.charges.ensures end.last)),
-        subst (λ (k : KnobsView). IsVerdict k (joined_record events of) c.in_ok-verdict_of-in-Some.field-0) b.knobs
-            (c.in_ok-verdict_of-in-Some.ensures (joined_record events of) all),
+        subst (λ (a : AimView). IsFinding a.least a.knobs (joined_record events of) c.in_ok-finding_of-in-Some.field-0)
+            b.aim
+            (c.in_ok-finding_of-in-Some.ensures (joined_record events of) all),
       ),
     )

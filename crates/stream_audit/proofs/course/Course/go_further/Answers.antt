@@ -1,6 +1,6 @@
 use Rattle.std.proofs.Common.{◌++◌, List, sym, subst}
 use Rattle.cfs_model.specs.Claimed.{Claimed}
-use Rattle.cfs_model.specs.Knobs.{KnobsView}
+use Rattle.stream_audit.specs.Aim.{AimView}
 use Rattle.stream_audit.specs.Companion.{IsFedBy, IsPast}
 use Rattle.stream_audit.specs.Course.{AreJudged, IsCourseOf}
 use Rattle.stream_audit.specs.declared.companion_input.CompanionInput.{CompanionInput}
@@ -17,15 +17,15 @@ returns-clause-went g c = λ gave left said before handed so next past judged.
     let events = before ++ c.args.events.now in
     let e = c.in_ok-go_on.ensures in
     let went = e.went gave left said before handed so next past in
-    let known = judged_stays first mid handed c.judge.new.judge e.knobs went.1 e.starts
+    let known = judged_stays first mid handed c.judge.new.judge e.aim went.1 e.starts
     (c.in_ok-judge.ensures.judged handed judged) in
-    on_ok ((x : List Claimed) × IsCourseOf mid.knobs gave left later said events x
+    on_ok ((x : List Claimed) × IsCourseOf mid.aim gave left later said events x
     × AreJudged later x c.hand_on.new.judge)
-    ((x : List Claimed) × IsCourseOf first.knobs gave left later said events x
+    ((x : List Claimed) × IsCourseOf first.aim gave left later said events x
     × AreJudged later x c.hand_on.new.judge) c.hand_on.result
-    (λ on. (on.0, subst (λ (k : KnobsView). IsCourseOf k gave left later said events on.0) e.knobs on.1, on.2))
+    (λ on. (on.0, subst (λ (k : AimView). IsCourseOf k gave left later said events on.0) e.aim on.1, on.2))
     (c.hand_on.ensures.went gave left said events handed
-    (subst (λ (k : KnobsView). IsCourseOf k gave left mid said events handed) (sym e.knobs) went.0) known)
+    (subst (λ (k : AimView). IsCourseOf k gave left mid said events handed) (sym e.aim) went.0) known)
 
 pub returns-clause-past : goal.returns-clause-past
 returns-clause-past g c = λ gave left said before handed line so next past far.

@@ -19,9 +19,9 @@ returns-clause-went c = λ gave left said before handed so next past.
     let mid = c.join.new.self in
     let went = c.in_ok-join.ensures.went gave left said before handed so next past in
     let later = record mid { companion = record (mid.companion) { reader = c.forget_through.new.self } } in (
-      forgets course.knobs gave left mid later said (before ++ events) handed line went.0 is refl refl refl refl
+      forgets course.aim gave left mid later said (before ++ events) handed line went.0 is refl refl refl refl
           c.forget_through.ensures.stays,
-      λ calm. went.1 (forgets_calm course.knobs gave left mid later said (before ++ events) handed line went.0 is refl
+      λ calm. went.1 (forgets_calm course.aim gave left mid later said (before ++ events) handed line went.0 is refl
           c.forget_through.ensures.stays calm),
     )
 
@@ -34,7 +34,7 @@ returns-clause-past c = λ gave left said before handed edge so next past far.
     let is = sym (edge_is before events event (some_events events c.requires.some)) in
     let went = c.join.new.self in
     let later = record went { companion = record (went.companion) { reader = c.forget_through.new.self } } in
-    still_past course.knobs gave left went later said (before ++ events) handed line edge
+    still_past course.aim gave left went later said (before ++ events) handed line edge
     (c.in_ok-join.ensures.went gave left said before handed so next past).0 is refl c.forget_through.ensures.stays
     (subst (λ (input : CompanionInput). IsPast edge said input) (sym c.in_ok-join.ensures.companion) far)
 

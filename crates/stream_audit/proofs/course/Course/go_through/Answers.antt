@@ -1,6 +1,6 @@
 use Rattle.std.proofs.Common.{◌≡◌, ◌+◌, ◌-◌, ◌<◌, ◌++◌, List, length, take, take_all, refl, sym, ap, subst, ◌∙◌}
 use Rattle.std.proofs.Common.{append-nil, arith}
-use Rattle.cfs_model.specs.Knobs.{KnobsView}
+use Rattle.stream_audit.specs.Aim.{AimView}
 use Rattle.cfs_model.specs.declared.act.Entry.{Entry}
 use Rattle.window_joining.specs.Joining.{edge_of}
 use Rattle.stream_audit.specs.Course.{IsCourseOf}
@@ -11,12 +11,12 @@ use Rattle.stream_audit.proofs.course.Course.go_through.Goals as goal
 pub loop-from-init : goal.loop-from-init
 loop-from-init g c = record {
   within = omega arith;
-  knobs = refl;
+  aim = refl;
   handed_on = c.requires.handed_on;
   fed = λ calls has_ended has_failed fed. fed;
   went = λ gave left before handed ready judged. (
     handed,
-    subst (λ (es : List Entry). IsCourseOf c.args.self.now.knobs gave left c.args.self.now ready.said es handed)
+    subst (λ (es : List Entry). IsCourseOf c.args.self.now.aim gave left c.args.self.now ready.said es handed)
         (sym (append-nil before)) ready.so_far,
     judged,
   );
@@ -42,8 +42,8 @@ go_further-requires-clause-next g c κs within =
       ready.said,
       before ++ take at events,
       went.0,
-      subst (λ (k : KnobsView). IsCourseOf k gave left c.loop-from.self ready.said (before ++ take at events) went.0)
-          (sym so_far.knobs) went.1,
+      subst (λ (k : AimView). IsCourseOf k gave left c.loop-from.self ready.said (before ++ take at events) went.0)
+          (sym so_far.aim) went.1,
       next_window before events at count (ready.next some),
       past_down _ (edge_of (before ++ events)) ready.said c.loop-from.self.companion
           (window_below before events at count (ready.next some))
@@ -62,31 +62,31 @@ loop-from-preserved g c =
     let some : 0 < length events = omega arith in
     record {
       within = omega arith;
-      knobs = e.knobs ∙ so_far.knobs;
+      aim = e.aim ∙ so_far.aim;
       handed_on = e.handed_on;
       fed = λ calls has_ended has_failed fed. e.fed calls has_ended has_failed (so_far.fed calls has_ended has_failed
           fed);
       went = λ gave left before handed ready judged.
           let went = so_far.went gave left before handed ready judged in
-          let so = subst (λ (k : KnobsView). IsCourseOf k gave left c.loop-from.self ready.said
-          (before ++ take at events) went.0) (sym so_far.knobs) went.1 in
+          let so = subst (λ (k : AimView). IsCourseOf k gave left c.loop-from.self ready.said
+          (before ++ take at events) went.0) (sym so_far.aim) went.1 in
           let past = past_down _ (edge_of (before ++ events)) ready.said c.loop-from.self.companion
           (window_below before events at count (ready.next some))
           (so_far.past gave left before handed ready judged some) in
           let on = e.went gave left ready.said (before ++ take at events) went.0 so
           (next_window before events at count (ready.next some)) past went.2 in (
             on.0,
-            subst (λ (k : KnobsView). IsCourseOf k gave left c.go_further.new.self ready.said
-                (before ++ take (at + c.min.result) events) on.0) so_far.knobs
-                (subst (λ (es : List Entry). IsCourseOf c.loop-from.self.knobs gave left c.go_further.new.self
+            subst (λ (k : AimView). IsCourseOf k gave left c.go_further.new.self ready.said
+                (before ++ take (at + c.min.result) events) on.0) so_far.aim
+                (subst (λ (es : List Entry). IsCourseOf c.loop-from.self.aim gave left c.go_further.new.self
                 ready.said es on.0)
                 (with_window before events at count ∙ ap (λ n. before ++ take n events) same) on.1),
             on.2,
           );
       past = λ gave left before handed ready judged some.
           let went = so_far.went gave left before handed ready judged in
-          let so = subst (λ (k : KnobsView). IsCourseOf k gave left c.loop-from.self ready.said
-          (before ++ take at events) went.0) (sym so_far.knobs) went.1 in
+          let so = subst (λ (k : AimView). IsCourseOf k gave left c.loop-from.self ready.said
+          (before ++ take at events) went.0) (sym so_far.aim) went.1 in
           let all = so_far.past gave left before handed ready judged some in
           e.past gave left ready.said (before ++ take at events) went.0 (edge_of (before ++ events)) so
           (next_window before events at count (ready.next some))
@@ -105,7 +105,7 @@ returns-clause-went g c = λ gave left before handed ready judged.
       went.0,
       (
         ready.said,
-        subst (λ (es : List Entry). IsCourseOf c.args.self.now.knobs gave left c.loop-from.self ready.said
+        subst (λ (es : List Entry). IsCourseOf c.args.self.now.aim gave left c.loop-from.self ready.said
             (before ++ es) went.0) (take_all c.loop-from.from events (omega arith)) went.1,
       ),
       went.2,

@@ -12,18 +12,18 @@ invariant-loop-from g l =
     let first = l.initial.self in
     record {
       within : l.from ≤ length l.events;
-      knobs : l.self.knobs ≡ first.knobs;
+      aim : l.self.aim ≡ first.aim;
       handed_on : IsHandedOn l.self;
       fed : (calls : ℕ) (has_ended has_failed : Bool) → IsFedBy calls has_ended has_failed first.companion
           → IsFedBy calls has_ended has_failed l.self.companion;
       went : (gave left : Option (List ℕ)) (before : List Entry) (handed : List Claimed)
-          (ready : IsReadyFor first.knobs gave left first before handed l.events)
+          (ready : IsReadyFor first.aim gave left first before handed l.events)
           → AreJudged first handed l.initial.judge
           → (after : List Claimed)
-          × IsCourseOf first.knobs gave left l.self ready.said (before ++ take l.from l.events) after
+          × IsCourseOf first.aim gave left l.self ready.said (before ++ take l.from l.events) after
           × AreJudged l.self after l.judge;
       past : (gave left : Option (List ℕ)) (before : List Entry) (handed : List Claimed)
-          (ready : IsReadyFor first.knobs gave left first before handed l.events)
+          (ready : IsReadyFor first.aim gave left first before handed l.events)
           → AreJudged first handed l.initial.judge → 0 < length l.events
           → IsPast (edge_of (before ++ l.events)) ready.said l.self.companion;
     }

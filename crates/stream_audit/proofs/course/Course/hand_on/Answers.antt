@@ -13,18 +13,18 @@ returns-in-Some-judge-clause-went g c = λ gave left said events handed so judge
     let old = c.in-Some-judge.judge in
     let new = c.take.new.joined in
     let e = c.take.ensures in
-    let awaiting = IsAwaiting (begun course.knobs joined.start) handed in (
+    let awaiting = IsAwaiting (begun course.aim joined.start) handed in (
       handed ++ window_view joined.window,
-      course_after course.knobs gave left course said events handed joined new so c.in-Some.is e.start e.joining
+      course_after course.aim gave left course said events handed joined new so c.in-Some.is e.start e.joining
           e.emptied,
-      judged_after course.knobs gave left course said events handed joined new so c.in-Some.is e.start e.joining
+      judged_after course.aim gave left course said events handed joined new so c.in-Some.is e.start e.joining
           e.emptied c.together.ensures old c.take.new.self e.progress e.taken
           (at_some (Unit {0}) (λ j. window_view j.window ≡ []) _ old c.in-Some-judge.is
           (c.in_ok-begin_judging.ensures.idle c.requires))
           (λ calm. at_some ⊥ awaiting _ old c.in-Some-judge.is
           (c.in_ok-begin_judging.ensures.awaiting handed
           (at_some _ (λ from. MatchOption c.args.judge.now (handed ≡ [])
-          (λ j. IsAwaiting (begun course.knobs from.start) handed j)) course.joined joined c.in-Some.is
+          (λ j. IsAwaiting (begun course.aim from.start) handed j)) course.joined joined c.in-Some.is
           (judged calm)))),
     )
 

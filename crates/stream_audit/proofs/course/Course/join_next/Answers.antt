@@ -1,5 +1,5 @@
-use Rattle.std.proofs.Common.{◌++◌, List, drop, sym, subst, take}
-use Rattle.cfs_model.specs.Knobs.{KnobsView}
+use Rattle.std.proofs.Common.{◌++◌, drop, sym, subst, take}
+use Rattle.stream_audit.specs.Aim.{AimView}
 use Rattle.stream_audit.specs.Course.{IsReadyFor}
 use Rattle.stream_audit.proofs.course.Course.join_next.Goals as goal
 
@@ -14,7 +14,7 @@ join_first-requires g c =
       left,
       next.2,
       next.3,
-      subst (λ (k : KnobsView). IsReadyFor k next.0 left later next.2 next.3 c.args.events.now) (sym read.knobs) ready,
+      subst (λ (k : AimView). IsReadyFor k next.0 left later next.2 next.3 c.args.events.now) (sym read.aim) ready,
     )
 
 pub returns-clause-joins : goal.returns-clause-joins
@@ -25,11 +25,11 @@ returns-clause-joins g c = record {
       let left = g.C.Feed.left c.read_past.new.companion in
       let went = read.went gave said before handed so next in
       let on = c.in_ok-count.ensures.ready gave left before handed
-      (subst (λ (k : KnobsView). IsReadyFor k gave left later before handed c.args.events.now) (sym read.knobs)
+      (subst (λ (k : AimView). IsReadyFor k gave left later before handed c.args.events.now) (sym read.aim)
       went.0) in (
-        subst (λ (k : KnobsView). IsReadyFor k gave left c.join_first.new.self
+        subst (λ (k : AimView). IsReadyFor k gave left c.join_first.new.self
             (before ++ take c.in_ok-count.count c.args.events.now) handed (drop c.in_ok-count.count c.args.events.now))
-            read.knobs on.0,
+            read.aim on.0,
         λ now. went.1 (on.1 now),
       );
 }

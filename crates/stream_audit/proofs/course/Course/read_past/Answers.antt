@@ -31,9 +31,9 @@ returns-clause-went g c = λ gave said before handed so next.
     on_both (SaysOn gave left course.companion input said so.edge)
     ((gave : Option (List ℕ)) (said : Said) (edge : ℕ) → IsCompanionAt gave left input said edge
     → IsPast line said input)
-    (IsReadyFor course.knobs gave left later before handed events × (IsCalm later → IsCalm course)) c.read_past.result
+    (IsReadyFor course.aim gave left later before handed events × (IsCalm later → IsCalm course)) c.read_past.result
     (λ on past. (
-      made_ready course.knobs gave (g.C.Feed.left c.args.companion.now) left course later said before handed events
+      made_ready course.aim gave (g.C.Feed.left c.args.companion.now) left course later said before handed events
           so next refl refl on
           (λ some. subst (λ (n : ℕ). IsPast n on.after input) (sym (edge_is before events event some))
           (past gave on.after so.edge on.at)),

@@ -12,11 +12,11 @@ returns-clause-went g c = λ gave said events handed so.
     let later = record course { companion = input } in
     let left = g.C.Feed.left c.read_rest.new.feed in
     on_ok (SaysOn gave left course.companion input said so.edge)
-    (CourseGoesOn course.knobs gave left later events handed × (IsCalm later → IsCalm course))
+    (CourseGoesOn course.aim gave left later events handed × (IsCalm later → IsCalm course))
     c.read_rest.result (λ on. (
       (
         on.after,
-        goes_with course.knobs gave (g.C.Feed.left c.args.companion.now) left course later said events handed so refl
+        goes_with course.aim gave (g.C.Feed.left c.args.companion.now) left course later said events handed so refl
             refl on,
       ),
       calm_from course later on.good (same_refusal course.joined course.joined refl),

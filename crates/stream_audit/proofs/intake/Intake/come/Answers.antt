@@ -1,4 +1,4 @@
-use Rattle.std.proofs.Common.{◌≡◌, ◌<◌, ◌++◌, List, arith, drop, length, sym, subst, take}
+use Rattle.std.proofs.Common.{◌<◌, ◌++◌, List, drop, length, sym, subst, take}
 use Rattle.cfs_model.specs.declared.act.Entry.{Entry}
 use Rattle.stream_audit.specs.Course.{AreEventsNext, IsReadyFor}
 use Rattle.stream_audit.proofs.Heard.{course_pending, pending_on, ready_first}
@@ -21,7 +21,7 @@ join_and_read-joined-requires-clause-next g c κs within =
 
 pub returns-in-Ok-clause-came : goal.returns-in-Ok-clause-came
 unfolding pending_on
-returns-in-Ok-clause-came g c = λ knobs trace_gave gave handed coming.
+returns-in-Ok-clause-came g c = λ aim trace_gave gave handed coming.
     let self = c.args.self.now in
     let events = self.events.items in
     let n = c.in-Ok.count in
@@ -31,19 +31,19 @@ returns-in-Ok-clause-came g c = λ knobs trace_gave gave handed coming.
     let pending = coming.pending in
     let went = of_ok _ _ n c.in-Ok.is
     (both.ensures.joins.went gave pending.said pending.before handed
-    (course_pending knobs gave _ coming.bytes self.reader self.course handed events pending)
+    (course_pending aim gave _ coming.bytes self.reader self.course handed events pending)
     (subst (λ (es : List Entry). 0 < length es → AreEventsNext pending.before es) (sym c.deref.ensures.value)
     pending.next)) in
     if_ok _ _ both.result.1
     (λ goes_on comes. record {
       bytes = coming.bytes ++ comes.more;
       stands = comes.next;
-      ready = ready_first knobs gave _ left (coming.bytes ++ comes.more) both.new.reader self.course later handed events
-          n (pending_on knobs gave _ coming.bytes comes.more self.reader both.new.reader self.course handed events
+      ready = ready_first aim gave _ left (coming.bytes ++ comes.more) both.new.reader self.course later handed events
+          n (pending_on aim gave _ coming.bytes comes.more self.reader both.new.reader self.course handed events
           comes.lines comes.read pending)
-          (subst (λ (es : List Entry). IsReadyFor self.course.knobs gave left later (pending.before ++ take n es) handed
+          (subst (λ (es : List Entry). IsReadyFor self.course.aim gave left later (pending.before ++ take n es) handed
           (drop n es)) c.deref.ensures.value went.0);
       calm = went.1;
       starts = on_ok_of _ _ n c.in-Ok.is both.ensures.starts;
-      same_knobs = both.ensures.knobs;
+      same_knobs = both.ensures.aim;
     }) (both.ensures.passed trace_gave coming.bytes coming.stands)

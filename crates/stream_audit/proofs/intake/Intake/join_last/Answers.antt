@@ -1,4 +1,4 @@
-use Rattle.std.proofs.Common.{◌≡◌, ◌<◌, ◌++◌, List, drop, length, sym, subst, take}
+use Rattle.std.proofs.Common.{◌<◌, ◌++◌, List, drop, length, sym, subst, take}
 use Rattle.cfs_model.specs.declared.act.Entry.{Entry}
 use Rattle.stream_audit.specs.Course.{AreEventsNext, IsReadyFor}
 use Rattle.stream_audit.proofs.Heard.{course_pending, ready_first}
@@ -19,18 +19,18 @@ join_next-requires-clause-next g c =
     )
 
 pub returns-clause-ready : goal.returns-clause-ready
-returns-clause-ready g c = λ knobs gave bytes handed pending.
+returns-clause-ready g c = λ aim gave bytes handed pending.
     let self = c.args.self.now in
     let events = self.events.items in
     let n = c.in_ok-self.field-0 in
     let later = c.join_next.new.self in
     let left = g.C.Feed.left c.join_next.new.companion in
     let went = c.in_ok-self.ensures.joins.went gave pending.said pending.before handed
-    (course_pending knobs gave _ bytes self.reader self.course handed events pending)
+    (course_pending aim gave _ bytes self.reader self.course handed events pending)
     (subst (λ (es : List Entry). 0 < length es → AreEventsNext pending.before es) (sym c.deref.ensures.value)
     pending.next) in (
-      ready_first knobs gave _ left bytes self.reader self.course later handed events n pending
-          (subst (λ (es : List Entry). IsReadyFor self.course.knobs gave left later (pending.before ++ take n es) handed
+      ready_first aim gave _ left bytes self.reader self.course later handed events n pending
+          (subst (λ (es : List Entry). IsReadyFor self.course.aim gave left later (pending.before ++ take n es) handed
           (drop n es)) c.deref.ensures.value went.0),
       went.1,
     )

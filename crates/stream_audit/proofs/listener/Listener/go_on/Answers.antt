@@ -63,17 +63,17 @@ hand_on-requires-clause-ready g c κs within =
     )
 
 pub returns-clause-under_way : goal.returns-clause-under_way
-returns-clause-under_way g c = λ knobs trace_gave gave under.
+returns-clause-under_way g c = λ aim trace_gave gave under.
     let old = c.args.self.now.intake.course in
     let handed = under.handed in
     let both = c.judge_and_come-judged in
     let came = of_ok _ _ _ c.in_ok-goes_on.was
-    (both.ensures.came knobs trace_gave gave handed (coming_of knobs trace_gave _ gave _ c.args.self.now under)) in
+    (both.ensures.came aim trace_gave gave handed (coming_of aim trace_gave _ gave _ c.args.self.now under)) in
     let known = on_ok_of _ _ _ c.in_ok-judged.was
     (both.ensures.judged old handed (calm_told _ c.is_calm-calm.result c.is_calm-calm.ensures.found)
     under.judged) in
     let on = c.in_ok-hand_on.ensures in
-    let heard = on.heard knobs gave (g.C.Feed.left both.new.companion) came.bytes handed came.ready
+    let heard = on.heard aim gave (g.C.Feed.left both.new.companion) came.bytes handed came.ready
     (known_stays old both.new.intake.course handed both.new.judge came.same_knobs came.calm came.starts known) in
     let taken = c.take_next.ensures in
     record {
@@ -81,7 +81,7 @@ returns-clause-under_way g c = λ knobs trace_gave gave under.
       stands = subst (λ (b : LineBlocks). IsThen ReadsEntries trace_gave (g.T.Feed.left both.new.trace) b came.bytes
           c.in_ok-goes_on.goes_on) (sym (taken.blocks ∙ on.blocks)) came.stands;
       handed = heard.handed;
-      pending = taken.pending knobs gave (g.C.Feed.left both.new.companion) came.bytes heard.handed heard.by;
+      pending = taken.pending aim gave (g.C.Feed.left both.new.companion) came.bytes heard.handed heard.by;
       judged = subst (λ (course : Course). AreJudged course heard.handed c.hand_on.new.self.judge) (sym taken.course)
           heard.judged;
     }

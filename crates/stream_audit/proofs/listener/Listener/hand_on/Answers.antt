@@ -9,37 +9,37 @@ unfolding ready_there
 go_through_rest-requires-clause-ready g c κs within =
     let intake = c.args.self.now.intake in
     let course = intake.course in
-    let knobs = c.requires.ready.0 in
+    let aim = c.requires.ready.0 in
     let gave = c.requires.ready.1 in
     let left = c.requires.ready.2 in
     let bytes = c.requires.ready.3 in
     let handed = c.requires.ready.4 in
     let ready = c.requires.ready.5 in
     let rest = drop intake.next intake.events.items in
-    let there = ready_there knobs gave left bytes intake.reader course handed rest ready in
+    let there = ready_there aim gave left bytes intake.reader course handed rest ready in
     let on = c.in_ok-hand_on.ensures.went gave left there.said ready.before handed there.so_far
     (c.in_ok-let_go.ensures.judged handed c.requires.ready.6) in (
-      knobs,
+      aim,
       gave,
       left,
       bytes,
       on.0,
-      ready_on knobs gave left bytes intake.reader course c.hand_on.new.self handed on.0 rest ready
+      ready_on aim gave left bytes intake.reader course c.hand_on.new.self handed on.0 rest ready
           c.in_ok-hand_on.ensures.companion on.1,
       on.2,
     )
 
 pub returns-clause-heard : goal.returns-clause-heard
 unfolding ready_there
-returns-clause-heard g c = λ knobs gave left bytes handed ready judged.
+returns-clause-heard g c = λ aim gave left bytes handed ready judged.
     let intake = c.args.self.now.intake in
     let course = intake.course in
     let rest = drop intake.next intake.events.items in
-    let there = ready_there knobs gave left bytes intake.reader course handed rest ready in
+    let there = ready_there aim gave left bytes intake.reader course handed rest ready in
     let on = c.in_ok-hand_on.ensures.went gave left there.said ready.before handed there.so_far
     (c.in_ok-let_go.ensures.judged handed judged) in
-    c.go_through_rest.ensures.heard knobs gave left bytes on.0
-    (ready_on knobs gave left bytes intake.reader course c.hand_on.new.self handed on.0 rest ready
+    c.go_through_rest.ensures.heard aim gave left bytes on.0
+    (ready_on aim gave left bytes intake.reader course c.hand_on.new.self handed on.0 rest ready
     c.in_ok-hand_on.ensures.companion on.1) on.2
 
 pub returns-clause-fed : goal.returns-clause-fed

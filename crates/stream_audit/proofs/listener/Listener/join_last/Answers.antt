@@ -23,17 +23,17 @@ hand_on-requires-clause-ready g c κs within =
       p.2,
       p.3,
       ready.0,
-      known_stays old c.join_last.new.self.course p.3 c.judge_waiting.new.judge joined.knobs ready.1 joined.starts
+      known_stays old c.join_last.new.self.course p.3 c.judge_waiting.new.judge joined.aim ready.1 joined.starts
           (c.in_ok-judge_waiting.ensures old p.3
           (calm_told _ c.is_calm-calm.result c.is_calm-calm.ensures.found) p.5),
     )
 
 pub returns-clause-heard : goal.returns-clause-heard
-returns-clause-heard g c = λ knobs gave bytes handed pending judged.
+returns-clause-heard g c = λ aim gave bytes handed pending judged.
     let old = c.args.self.now.intake.course in
     let joined = c.in_ok-join_last.ensures in
-    let ready = joined.ready knobs gave bytes handed pending in
-    c.in_ok-hand_on.ensures.heard knobs gave _ bytes handed ready.0
-    (known_stays old c.join_last.new.self.course handed c.judge_waiting.new.judge joined.knobs ready.1 joined.starts
+    let ready = joined.ready aim gave bytes handed pending in
+    c.in_ok-hand_on.ensures.heard aim gave _ bytes handed ready.0
+    (known_stays old c.join_last.new.self.course handed c.judge_waiting.new.judge joined.aim ready.1 joined.starts
     (c.in_ok-judge_waiting.ensures old handed
     (calm_told _ c.is_calm-calm.result c.is_calm-calm.ensures.found) judged))

@@ -1,0 +1,12 @@
+pub mod Begun
+pub mod Late
+pub mod Lists
+pub mod Pursued
+pub mod WindowSeen
+pub mod RisePlaces
+pub mod IdlePlaces
+pub mod OverPlaces
+pub mod Figured
+pub mod Answered
+pub mod Going
+pub mod WholeRecord

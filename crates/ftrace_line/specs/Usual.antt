@@ -1,11 +1,11 @@
 -- The front of a text that goes on behind its first line, where that line is an event's: what is told of it, whatever
 -- stands behind the front (ftrace.rst; that such a front is told at once is this project's profile).
 use Rattle.std.specs.Prelude.{◌≡◌, ℕ, ◌<◌, ◌&&◌, ◌==◌, not, Bool, nat_lt, List, ◌∷◌, ◌++◌, length, Option, Some}
-use Rattle.std.specs.Prelude.{None, Ok, ◌||◌, false, if◌then◌else◌}
+use Rattle.std.specs.Prelude.{None, Ok}
 use Rattle.std.specs.List.{before_first}
 use Rattle.ftrace_line.specs.declared.kinds.Which.{Which}
 use Rattle.text_parts.specs.Lines.{is_line_feed}
-use Rattle.text_parts.specs.Numerals.{is_digit, IsNumeral}
+use Rattle.text_parts.specs.Numerals.{IsNumeral}
 use Rattle.text_parts.specs.Pieces.{IsGap}
 use Rattle.text_parts.specs.Unbroken.{IsUnbroken}
 use Rattle.ftrace_line.specs.Head.{IsFlags}
@@ -28,13 +28,6 @@ pub record HasName (text rest : List ℕ) : Type 0 where
   pub width : length name ≡ 15
   pub unbroken : IsUnbroken name
   pub parts : text ≡ 32 ∷ (name ++ (45 ∷ rest))
-
--- whether three columns hold digits, or none, and spaces behind them
-abbrev pub is_padded : ℕ → ℕ → ℕ → Bool
-is_padded first second third =
-    if is_digit third then is_digit second && is_digit first else
-    (if third == 32 then (if is_digit second then is_digit first else second == 32 && (first == 32 || is_digit first))
-    else false)
 
 -- the digits of a pid and the spaces behind them stand at the front of a text
 pub record HasPid (text rest : List ℕ) : Type 0 where

@@ -3,16 +3,14 @@ ghost use Rattle.std.specs.Bool.{OnTrue};
 ghost use Rattle.std.specs.List.{prefix_len};
 ghost use Rattle.text_parts.specs.Pieces.{IsGap};
 ghost use Rattle.text_parts.specs.Unbroken.{IsUnbroken};
-ghost use Rattle.ftrace_line.specs.Usual.{is_mark, is_padded, HasFlags, HasName, HasPid, HasHead, HasFront};
+ghost use Rattle.ftrace_line.specs.Usual.{is_mark, HasFlags, HasName, HasPid, HasHead, HasFront};
 
 use crate::head::{after_group, after_name, processor_at, stamp_at};
 use crate::kinds::Which;
 use crate::reading::{fields_of, kind_of};
 use cfs_model::{GREATEST_PROCESSOR, GREATEST_SECONDS, NANOSECONDS_PER_SECOND};
-use text_parts::numerals::{doubled, is_digit_byte};
-use text_parts::pieces::{
-    after_byte, after_digits_by_call, after_front, after_gap_by_call, after_narrow_gap,
-};
+use text_parts::numerals::doubled;
+use text_parts::pieces::{after_byte, after_digits, after_gap, after_gap_by_call};
 
 /// Kernels print fewer flags. These are looked at with no loop, and with no look at where the text ends.
 const FEW_MARKS: usize = 16;
@@ -111,54 +109,8 @@ fn is_unbroken(text: &[u8]) -> bool
 fn after_pid(text: &[u8]) -> Option<&[u8]>
     ensures { IfSome result (λ rest. HasPid text.now rest.now) }
 {
-    match after_padded_pid(text) {
-        Some(rest) => Some(rest),
-        None => after_any_pid(text),
-    }
-}
-
-/// The same where both together have eight columns, as kernels print them, and the pid has at most four digits: the
-/// width of what is read is known, and the columns are looked at with no loop.
-#[inline(always)]
-fn after_padded_pid(text: &[u8]) -> Option<&[u8]>
-    ensures { IfSome result (λ rest. HasPid text.now rest.now) }
-{
-    let [a, b, c, d, gap @ ..] = text else {
-        return None;
-    };
-    let rest = after_front(gap, b"    ")?;
-    if is_digit_byte(*a) && is_padded(*b, *c, *d) {
-        Some(rest)
-    } else {
-        None
-    }
-}
-
-/// Whether digits, or none, stand in these three columns, and spaces behind them.
-#[inline(always)]
-fn is_padded(first: u8, second: u8, third: u8) -> bool
-    ensures { result ≡ is_padded first second third }
-{
-    if is_digit_byte(third) {
-        is_digit_byte(second) && is_digit_byte(first)
-    } else if third == b' ' {
-        if is_digit_byte(second) {
-            is_digit_byte(first)
-        } else {
-            second == b' ' && (first == b' ' || is_digit_byte(first))
-        }
-    } else {
-        false
-    }
-}
-
-/// The same for any pid and gap.
-#[inline(always)]
-fn after_any_pid(text: &[u8]) -> Option<&[u8]>
-    ensures { IfSome result (λ rest. HasPid text.now rest.now) }
-{
-    let gap = after_digits_by_call(text)?;
-    let rest = after_gap_by_call(gap)?;
+    let gap = after_digits(text)?;
+    let rest = after_gap(gap)?;
     Some(rest)
 }
 
@@ -194,7 +146,7 @@ fn after_flags(text: &[u8]) -> &[u8]
     let [b' ', ..] = gap else {
         return text;
     };
-    match after_narrow_gap(gap) {
+    match after_gap(gap) {
         Some(rest) => rest,
         None => text,
     }

@@ -8,7 +8,8 @@ ghost use Rattle.sched_event.specs.FieldsView.{pair, numeral_pair, prio_pair, op
 ghost use Rattle.text_parts.specs.Numerals.{is_digit};
 
 use crate::numeral::Numeral;
-use text_parts::numerals::{doubled, number_at};
+use text_parts::numerals::doubled;
+use text_parts::packed::digits_at;
 use text_parts::pieces::{after_front, begins_with};
 
 /// A printed prio.
@@ -27,18 +28,12 @@ pub(crate) const NAME_MAX: usize = 15;
 pub(crate) fn digits<'a>(text: &'a [u8]) -> Option<(Numeral<'a>, &'a [u8])>
     ensures { Gives numeral_pair result (run_at is_digit text.now) }
 {
-    let number = number_at(text);
-    if number.digits == 0 {
+    let (count, value) = digits_at(text);
+    if count == 0 {
         return None;
     }
-    let digits = &text[..number.digits];
-    Some((
-        Numeral {
-            digits,
-            value: number.value,
-        },
-        number.rest,
-    ))
+    let (digits, rest) = text.split_at(count);
+    Some((Numeral { digits, value }, rest))
 }
 
 /// How many bytes stand before the first space.

@@ -1,7 +1,9 @@
 //! The fields of a text that goes on behind its line: no line ends in what is read here.
 
-ghost use Rattle.std.specs.Prelude.{◌≡◌, ◌<◌, ◌≤◌, length, take, Some, IfSome};
+ghost use Rattle.std.specs.Prelude.{◌≡◌, ◌<◌, ◌≤◌, length, take, map, nat_le, Some, IfSome};
 ghost use Rattle.std.specs.List.{prefix_len};
+ghost use Rattle.std.specs.Simd.Lanes.{mask_l};
+ghost use Rattle.text_parts.specs.Packed.{BeginsWithRun};
 ghost use Rattle.text_parts.specs.Unbroken.{IsUnbroken};
 ghost use Rattle.sched_event.specs.Texts.{IsName, IsState};
 ghost use Rattle.sched_event.specs.FieldsView.{numeral_pair, prio_pair};
@@ -12,8 +14,13 @@ ghost use Rattle.sched_event.specs.Usual.{HasField, HasMiddlePrio, is_plain};
 
 use crate::fields::{NAME_MAX, PrioFields, digits};
 use crate::numeral::Numeral;
+use std::simd::prelude::*;
 use text_parts::numerals::doubled;
+use text_parts::packed::first_set;
 use text_parts::pieces::{after_front, begins_with};
+
+/// So many bytes of a state are looked at together.
+const TOGETHER: usize = 8;
 
 /// The name behind a key, up to the first place where the next key stands, and the text from that key on.
 #[inline(always)]
@@ -155,10 +162,43 @@ fn next_gap(text: &[u8], from: usize) -> usize
     index
 }
 
-/// How many bytes stand before the first space or control character.
+/// How many bytes stand before the first space or control character. States have one letter or two, so eight bytes are
+/// looked at with no branch to guess.
 #[inline(always)]
-#[tactic(auto, using(text_parts::proofs::Runs::prefix_within))]
 fn plain_count(text: &[u8]) -> usize
+    ensures count { result ≡ prefix_len is_plain text.now }
+    ensures within { result ≤ length text.now }
+{
+    if text.len() >= TOGETHER {
+        let count = plain_in_front(text);
+        if count < TOGETHER {
+            return count;
+        }
+    }
+    many_plain(text)
+}
+
+/// How many of the first eight bytes stand before a space or a control character.
+#[inline(always)]
+fn plain_in_front(text: &[u8]) -> usize
+    requires { 8 ≤ length text.now }
+    ensures { BeginsWithRun is_plain text.now result }
+{
+    first_set(gaps(u8x8::from_slice(text)))
+}
+
+/// Which of eight bytes are spaces or control characters, by a bit for each.
+#[inline(always)]
+fn gaps(bytes: u8x8) -> u64
+    ensures { result ≡ mask_l (map (λ byte. nat_le byte 32) bytes) }
+{
+    bytes.simd_le(u8x8::splat(b' ')).to_bitmask()
+}
+
+/// How many bytes stand before the first space or control character, which are looked at one by one.
+#[inline(never)]
+#[tactic(auto, using(text_parts::proofs::Runs::prefix_within))]
+fn many_plain(text: &[u8]) -> usize
     ensures count { result ≡ prefix_len is_plain text.now }
     ensures within { result ≤ length text.now }
 {

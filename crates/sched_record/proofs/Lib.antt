@@ -16,7 +16,6 @@ pub mod Settled
 pub mod StreamsKept
 pub mod SpanIndex
 pub mod Splits
-pub mod StepSaid
 pub mod Straying
 pub mod Telling
 pub mod Walk

@@ -1,17 +1,16 @@
 -- Dealing a window by the indices of the events that touch a processor.
-use Rattle.std.proofs.Common.{◌≡◌, ℕ, zero, suc, ◌+◌, ◌<◌, ◌≤◌, List, [], ◌∷◌, ◌++◌, length, get_or, map, take, refl}
-use Rattle.std.proofs.Common.{sym, ap, subst, ◌∙◌, All, arith, drop}
+use Rattle.std.proofs.Common.{◌≡◌, ℕ, zero, suc, ◌+◌, ◌<◌, List, [], ◌∷◌, ◌++◌, length, get_or, map, take, refl}
+use Rattle.std.proofs.Common.{sym, ap, subst, ◌∙◌, All, arith}
 use Rattle.std.specs.Prelude.{filter}
-use Rattle.std.proofs.lemmas.List.{drop-map, get_or-map, get_or_default, length-map, map_more, take-map, take_all}
-use Rattle.std.proofs.lemmas.List.Elements.{All-drop, All-get_or, All-take}
-use Rattle.std.proofs.lemmas.List.Sums.{count_by-le-length, length-filter}
+use Rattle.std.proofs.lemmas.List.{get_or-map, get_or_default, length-map, take_more}
+use Rattle.std.proofs.lemmas.List.Elements.{All-get_or}
 use Rattle.cfs_model.specs.Claimed.{Claimed}
 use Rattle.cfs_model.specs.declared.act.Entry.{Entry}
 use Rattle.replay_model.specs.Cut.{steps_at, touches}
 use Rattle.replay_model.specs.StepAt.{step_at}
 use Rattle.replay_model.specs.declared.step.Step.{Step}
 use Rattle.sched_record.specs.Indices.{indices_touching}
-use Rattle.sched_record.specs.Window.{said_beside, said_of}
+use Rattle.sched_record.specs.Window.{AreTouching, said_beside, said_of}
 use Rattle.sched_record.specs.declared.window.Saying.{Saying}
 use Rattle.sched_record.proofs.Indexing.{indices_within, said_found}
 use Rattle.sched_record.proofs.Windows.{said_here, said_length}
@@ -37,80 +36,77 @@ pub stands_as : (sayings : List Saying) (i : ℕ) (saying : Saying) → i < leng
 stands_as sayings i saying lt known =
     let there = get_or sayings i saying in sym (known there (get_or_default sayings i saying there lt))
 
-at_most : (xs : List Claimed) (n : ℕ) → (Claimed → length xs ≤ n) → length xs ≤ n
-at_most [] n h = omega arith
-at_most (x ∷ xs) n h = h x
-
--- some of the indices of the events that touch a processor
-module _ (cpu from most : ℕ) (events : List Entry) (sayings : List Saying) (indices : List ℕ)
-    (paired : length sayings ≡ length events)
-    (are : indices ≡ take most (drop from (indices_touching cpu events))) where
+-- the indices of the events that touch a processor
+module _ (cpu : ℕ) (events : List Entry) (sayings : List Saying) (indices : List ℕ)
+    (paired : length sayings ≡ length events) (are : indices ≡ indices_touching cpu events) where
   abbrev said : List Claimed
   said = said_beside events sayings
 
   abbrev touching : List Claimed
-  touching = take most (drop from (filter (touches cpu) said))
+  touching = filter (touches cpu) said
 
   -- what is said at them
   found : (d : Claimed) → map (λ index. get_or said index d) indices ≡ touching
-  found d =
-      let read : ℕ → Claimed = λ index. get_or said index d in
-      ap (map read) are ∙ sym (take-map read most (drop from (indices_touching cpu events)))
-      ∙ ap (take most) (sym (drop-map read from (indices_touching cpu events)))
-      ∙ ap (λ xs. take most (drop from xs)) (said_found cpu events sayings d paired)
+  found d = ap (map (λ index. get_or said index d)) are ∙ said_found cpu events sayings d paired
 
   -- each is one among the events
-  pub part_below : (k : ℕ) → k < length indices → get_or indices k 0 < length events
-  part_below k h =
-      All-get_or (λ index. index < length events) indices k 0 h
-      (subst (All (λ index. index < length events)) (sym are)
-      (All-take (λ index. index < length events) most (drop from (indices_touching cpu events))
-      (All-drop (λ index. index < length events) from (indices_touching cpu events) (indices_within cpu events))))
+  below : (k : ℕ) → k < length indices → get_or indices k 0 < length said
+  below k h =
+      let in_events = All-get_or (λ index. index < length events) indices k 0 h
+      (subst (All (λ index. index < length events)) (sym are) (indices_within cpu events)) in
+      let size = said_length events sayings paired in
+      omega (arith, in_events, size)
 
   -- there are as many as indices
   count : (d : Claimed) → length touching ≡ length indices
   count d = ap length (sym (found d)) ∙ length-map indices (λ index. get_or said index d)
 
-  -- the step at the next index
-  pub deals_next : (k : ℕ) (steps more : List Step) → k < length indices
-      → steps ≡ map (step_at cpu) (take k touching)
-      → ((here : Claimed) → here ≡ get_or said (get_or indices k 0) here → more ≡ steps ++ step_at cpu here ∷ [])
-      → more ≡ map (step_at cpu) (take (k + 1) touching)
-  deals_next k steps more h dealt added =
-      let below = part_below k h in
-      let size = said_length events sayings paired in
-      let there = claimed_there said (get_or indices k 0) (omega (arith, below, size)) in
-      let here = there.0 in
-      let at : here ≡ get_or touching k here =
-      there.1 ∙ sym (get_or-map (λ index. get_or said index here) indices k 0 here h)
-      ∙ ap (λ es. get_or es k here) (found here) in
-      added here there.1 ∙ ap (λ ss. ss ++ step_at cpu here ∷ []) dealt
-      ∙ ap (λ x. map (step_at cpu) (take k touching) ++ step_at cpu x ∷ []) at
-      ∙ sym (map_more (step_at cpu) touching k here (let n = count here in omega (arith, n, h)))
+  step_there : (k : ℕ) (here : Claimed) (d : Step) → k < length indices → here ≡ get_or said (get_or indices k 0) here
+      → get_or (steps_at cpu said) k d ≡ step_at cpu here
+  step_there k here d h there =
+      get_or-map (step_at cpu) touching k here d (let n = count here in omega (arith, n, h))
+      ∙ ap (step_at cpu) (ap (λ es. get_or es k here) (sym (found here))
+      ∙ get_or-map (λ index. get_or said index here) indices k 0 here h ∙ sym there)
 
-  -- the steps at all of them
-  pub deals_indexed : (k : ℕ) (steps : List Step) → length indices ≤ k
-      → steps ≡ map (step_at cpu) (take k touching)
-      → steps ≡ take most (drop from (steps_at cpu said))
-  deals_indexed k steps all dealt =
-      dealt
-      ∙ ap (map (step_at cpu)) (take_all k touching (at_most touching k (λ d. (let n = count d in
-      omega (arith, n, all)))))
-      ∙ sym (take-map (step_at cpu) most (drop from (filter (touches cpu) said)))
-      ∙ ap (take most) (sym (drop-map (step_at cpu) from (filter (touches cpu) said)))
+  as_many : length touching ≡ length indices
+  as_many = by indices refl
+    where
+      by : (is : List ℕ) → indices ≡ is → length touching ≡ length indices
+      by is e = by_said said refl
+        where
+          by_said : (cs : List Claimed) → said ≡ cs → length touching ≡ length indices
+          by_said (c ∷ cs) f = count c
+          by_said [] f = ap (λ l. length (filter (touches cpu) l)) f ∙ sym (no_indices is e f)
+            where
+              no_indices : (is : List ℕ) → indices ≡ is → said ≡ [] → length indices ≡ 0
+              no_indices [] e f = ap length e
+              no_indices (i ∷ is) e f = absurd (let h = below 0 (let n = ap length e in omega (arith, n)) in
+                  let n = ap length f in omega (arith, h, n))
 
--- no more steps than events
-pub steps_at_most : (cpu : ℕ) (events : List Entry) (sayings : List Saying)
-    → length (steps_at cpu (said_beside events sayings)) ≤ length events
-steps_at_most cpu events sayings =
-    let said = said_beside events sayings in
-    let steps = length-map (filter (touches cpu) said) (step_at cpu) in
-    let touching = length-filter (touches cpu) said in
-    let count = count_by-le-length (touches cpu) said in
-    let pairs = fewer events sayings in
-    omega (arith, steps, touching, count, pairs)
-  where
-    fewer : (es : List Entry) (ss : List Saying) → length (said_beside es ss) ≤ length es
-    fewer [] ss = omega arith
-    fewer (e ∷ es) [] = omega arith
-    fewer (e ∷ es) (s ∷ ss) = (let h = fewer es ss in omega (arith, h))
+  pub are_touching : AreTouching cpu said indices
+  are_touching = record {
+    within = below;
+    count = length-map touching (step_at cpu) ∙ as_many;
+    steps = step_there;
+  }
+
+-- what is known of the step at the next index tells the processor's next step
+pub step_found : (cpu : ℕ) (events : List Claimed) (indices : List ℕ) → AreTouching cpu events indices → (k : ℕ)
+    (step : Step) → k < length indices
+    → ((here : Claimed) → here ≡ get_or events (get_or indices k 0) here → step ≡ step_at cpu here)
+    → get_or (steps_at cpu events) k step ≡ step
+step_found cpu events indices at k step h is =
+    let there = claimed_there events (get_or indices k 0) (at.within k h) in
+    at.steps k there.0 step h there.1 ∙ sym (is there.0 there.1)
+
+-- one more step behind those that are dealt
+pub deals_next : (cpu : ℕ) (events : List Claimed) (indices : List ℕ) → AreTouching cpu events indices → (k : ℕ)
+    (steps more : List Step) → k < length indices → steps ≡ take k (steps_at cpu events)
+    → ((here : Claimed) → here ≡ get_or events (get_or indices k 0) here → more ≡ steps ++ step_at cpu here ∷ [])
+    → more ≡ take (k + 1) (steps_at cpu events)
+deals_next cpu events indices at k steps more h dealt added =
+    let there = claimed_there events (get_or indices k 0) (at.within k h) in
+    let step = step_at cpu there.0 in
+    added there.0 there.1 ∙ ap (λ ss. ss ++ step ∷ []) dealt
+    ∙ ap (λ s. take k (steps_at cpu events) ++ s ∷ []) (sym (at.steps k there.0 step h there.1))
+    ∙ sym (take_more (steps_at cpu events) k step (let n = at.count in omega (arith, n, h)))

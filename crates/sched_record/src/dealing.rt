@@ -1,8 +1,5 @@
 ghost use Rattle.std.specs.Prelude.{◌≡◌, ◌==◌, ℕ, ◌<◌, ◌≤◌, [], length, pos, IfOk, None, Option, slice_index_or};
-ghost use Rattle.std.specs.Bool.{OnFalse, OnTrue};
 ghost use Rattle.cfs_model.specs.Claimed.{charge_at, claim_at, nice_at};
-ghost use Rattle.cfs_model.specs.declared.claim.Claim.{Claim as ClaimOf};
-ghost use Rattle.cfs_model.specs.declared.policy.Policy.TheVariants.{Normal};
 ghost use Rattle.companion_file.specs.Seen.{companion_view};
 ghost use Rattle.replay_model.specs.Cut.{cut, tasks_at};
 ghost use Rattle.processor_stream.specs.Stream.{stream_view};
@@ -217,6 +214,7 @@ fn tasks_of(alloc: Global, tasks: &[Task], cpu: u32) -> Result<Tasks, Memory>
 
 /// An event with the claim, the change of a nice value and the told charge on its line, and the policy of the task that
 /// it bears or moves, as a processor that it touches sees it.
+#[inline(always)]
 pub fn step_at(
     event: Entry,
     claim: Option<Claim>,
@@ -241,18 +239,6 @@ pub fn step_at(
         claim: claim_for(&deed, claim),
         nice: nice_for(&deed, nice),
         charge: charge_for(&deed, charge),
-    }
-}
-
-/// Whether a task leaves a processor with what an event does: then the claim on its line is the destination's.
-#[inline(always)]
-pub(crate) fn leaves(act: Act, cpu: u32) -> bool
-    ensures gone { OnTrue result ((claim : Option ClaimOf) → claim_for (deed_here cpu Normal act) claim ≡ None) }
-    ensures here { OnFalse result ((claim : Option ClaimOf) → claim_for (deed_here cpu Normal act) claim ≡ claim) }
-{
-    match act {
-        Act::Shift { orig, .. } => orig == cpu,
-        Act::Switch { .. } | Act::Wake { .. } | Act::Born { .. } => false,
     }
 }
 
@@ -299,6 +285,7 @@ pub(crate) fn deed_at(act: Act, policy: Policy, cpu: u32) -> Deed
 }
 
 /// The claim of a step: a task that leaves has none.
+#[inline(always)]
 fn claim_for(deed: &Deed, claim: Option<Claim>) -> Option<Claim>
     ensures { result ≡ claim_for deed.now claim }
 {
@@ -309,6 +296,7 @@ fn claim_for(deed: &Deed, claim: Option<Claim>) -> Option<Claim>
 }
 
 /// The change of a nice value of a step: a task that comes has none.
+#[inline(always)]
 fn nice_for(deed: &Deed, change: Option<NiceLine>) -> Option<NiceLine>
     ensures { result ≡ nice_for deed.now change }
 {
@@ -319,6 +307,7 @@ fn nice_for(deed: &Deed, change: Option<NiceLine>) -> Option<NiceLine>
 }
 
 /// The told charge of a step: a task that comes has none.
+#[inline(always)]
 fn charge_for(deed: &Deed, charge: Option<ChargeLine>) -> Option<ChargeLine>
     ensures { result ≡ charge_for deed.now charge }
 {

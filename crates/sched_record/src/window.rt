@@ -1,14 +1,12 @@
 ghost use Rattle.std.specs.Prelude.{◌≡◌, ◌==◌, ℕ, ◌<◌, ◌^◌, ◌++◌, [], ◌∷◌, length, vec_capacity, vec_len};
-ghost use Rattle.std.specs.Prelude.{if◌then◌else◌, ◌≤◌, drop, take, IfSome, None, OnErr, OnOk};
+ghost use Rattle.std.specs.Prelude.{if◌then◌else◌, ◌≤◌, IfSome, None, OnErr, OnOk};
 ghost use Rattle.std.specs.List.{list_any};
 ghost use Rattle.std.proofs.Props.{props};
 ghost use Rattle.cfs_model.specs.Limits.{most_processors};
 ghost use Rattle.cfs_model.specs.Touch.{touched};
-ghost use Rattle.cfs_model.specs.declared.policy.Policy.TheVariants.{Normal};
-ghost use Rattle.replay_model.specs.StepAt.{claim_for, deed_at as deed_of, step_at as step_of};
 ghost use Rattle.sched_record.specs.Indices.{AreIndicesOf, indices_at, touches_cpu};
 
-use crate::dealing::{deed_at, leaves, step_at};
+use crate::dealing::step_at;
 use crate::indices::Indices;
 use crate::sayings::{Said, Sayings};
 use cfs_model::{Act, ChargeLine, Claim, Entry, MOST_PROCESSORS, Memory, NiceLine, Policy};
@@ -40,7 +38,7 @@ impl Window {
     ghost use Rattle.cfs_model.specs.Claimed.{Claimed};
     ghost use Rattle.replay_model.specs.Cut.{steps_at};
     ghost use Rattle.replay_model.specs.StepAt.{step_at as step_here};
-    ghost use Rattle.sched_record.specs.Window.{said_beside, said_of, window_view};
+    ghost use Rattle.sched_record.specs.Window.{AreTouching, said_beside, said_of, window_view};
 
     /// A window without events.
     pub fn new(alloc: Global) -> Window
@@ -101,32 +99,37 @@ impl Window {
         }
     }
 
+    /// Where the events that touch a processor stand among all, in their order; none where no indices are kept: of a
+    /// processor that no record has, or of more events than a `u32` counts.
+    #[inline(always)]
+    pub fn touching(&self, cpu: u32) -> Option<&[u32]>
+        ensures { IfSome result (λ indices. AreTouching cpu (window_view self.now) indices.now) }
+    {
+        if cpu as usize >= MOST_PROCESSORS || self.events.len() > u32::MAX as usize {
+            return None;
+        }
+        Some(self.indices.at(cpu))
+    }
+
+    /// The step of the event at an index, at a processor that it touches.
+    #[inline(always)]
+    pub fn step(&self, index: u32, cpu: u32) -> Step
+        requires { index < length (window_view self.now) }
+        ensures { (here : Claimed) → here ≡ slice_index_or (window_view self.now) index here
+            → result ≡ step_here cpu here }
+    {
+        self.step_of(index as usize, cpu)
+    }
+
     /// The steps of the events that touch a processor, in place of what the list held.
     pub fn deal(&self, cpu: u32, steps: &mut Vec<Step>) -> Result<(), Memory>
         ensures { OnOk result (steps.new.items ≡ steps_at cpu (window_view self.now)) }
     {
-        self.deal_some(cpu, 0, self.events.len(), steps)?;
-        Ok(())
-    }
-
-    /// At most so many of these steps, from one on, counted from 0, in place of what the list held.
-    pub fn deal_some(
-        &self,
-        cpu: u32,
-        from: usize,
-        most: usize,
-        steps: &mut Vec<Step>,
-    ) -> Result<(), Memory>
-        ensures { OnOk result (steps.new.items ≡ take most (drop from (steps_at cpu (window_view self.now)))) }
-    {
         steps.clear();
-        if cpu as usize >= MOST_PROCESSORS || self.events.len() > u32::MAX as usize {
-            let mut all = Vec::new(*steps.allocator());
-            self.deal_by_all(cpu, &mut all)?;
-            steps.extend_from_slice(part_of(&all, from, most))?;
-            return Ok(());
-        }
-        for index in part_of(self.indices.at(cpu), from, most) {
+        let Some(indices) = self.touching(cpu) else {
+            return self.deal_by_all(cpu, steps);
+        };
+        for index in indices {
             self.push_step(*index as usize, cpu, steps)?;
         }
         Ok(())
@@ -146,69 +149,59 @@ impl Window {
     }
 
     /// Adds the step of the event at an index, at a processor that it touches.
-    #[inline(always)]
     fn push_step(&self, index: usize, cpu: u32, steps: &mut Vec<Step>) -> Result<(), Memory>
         requires { index < length self.now.events.items }
         ensures { (here : Claimed) → here ≡ slice_index_or (window_view self.now) index here
             → OnOk result (steps.new.items ≡ steps.old.items ++ step_here cpu here ∷ []) }
     {
+        // Taken apart: the check knows the types of what is named.
+        let Step {
+            line,
+            time,
+            deed,
+            claim,
+            nice,
+            charge,
+        } = self.step_of(index, cpu);
+        push(
+            steps,
+            Step {
+                line,
+                time,
+                deed,
+                claim,
+                nice,
+                charge,
+            },
+        )
+    }
+
+    /// The step of the event at an index of the list of events, at a processor that it touches.
+    #[inline(always)]
+    fn step_of(&self, index: usize, cpu: u32) -> Step
+        requires { index < length self.now.events.items }
+        ensures { (here : Claimed) → here ≡ slice_index_or (window_view self.now) index here
+            → result ≡ step_here cpu here }
+    {
         let event = self.events[index];
         match self.sayings.said_at(index) {
-            Said::Nothing => push_usual(steps, &event, None, cpu),
-            // Apart, so that each way writes its own constant tags.
-            Said::OneClaim(_) if leaves(event.act, cpu) => push_usual(steps, &event, None, cpu),
-            Said::OneClaim(claim) => push_usual(steps, &event, Some(claim), cpu),
-            Said::More(_) => self.push_whole_step(index, cpu, steps),
+            Said::Nothing => step_at(event, None, None, None, Policy::Normal, cpu),
+            Said::OneClaim(claim) => step_at(event, Some(claim), None, None, Policy::Normal, cpu),
+            Said::More(_) => self.whole_step(index, cpu),
         }
     }
 
     /// The same of an event on whose line more is said than a claim. Out of line, as there are few.
     #[inline(never)]
-    fn push_whole_step(&self, index: usize, cpu: u32, steps: &mut Vec<Step>) -> Result<(), Memory>
+    fn whole_step(&self, index: usize, cpu: u32) -> Step
         requires { index < length self.now.events.items }
         ensures { (here : Claimed) → here ≡ slice_index_or (window_view self.now) index here
-            → OnOk result (steps.new.items ≡ steps.old.items ++ step_here cpu here ∷ []) }
+            → result ≡ step_here cpu here }
     {
         let event = self.events[index];
         let said = self.sayings.get(index);
-        let step = step_at(event, said.claim, said.nice, said.charge, said.policy, cpu);
-        let _deed = step.deed;
-        push(steps, step)
+        step_at(event, said.claim, said.nice, said.charge, said.policy, cpu)
     }
-}
-
-/// Adds the step of an event on whose line no more is said than this claim, if there is one, of a task of the usual
-/// policy.
-#[inline(always)]
-fn push_usual(
-    steps: &mut Vec<Step>,
-    event: &Entry,
-    claim: Option<Claim>,
-    cpu: u32,
-) -> Result<(), Memory>
-    requires { claim_for (deed_of cpu Normal event.now.act) claim ≡ claim }
-    ensures { OnOk result (steps.new.items ≡ steps.old.items ++ step_of cpu (record {
-      entry = event.now;
-      claim = claim;
-      nice = None;
-      charge = None;
-      policy = Normal;
-    }) ∷ []) }
-{
-    let deed = deed_at(event.act, Policy::Normal, cpu);
-    // Named: the check knows the types of what is.
-    let (nice, charge): (Option<NiceLine>, Option<ChargeLine>) = (None, None);
-    push(
-        steps,
-        Step {
-            line: event.line,
-            time: event.time,
-            deed,
-            claim,
-            nice,
-            charge,
-        },
-    )
 }
 
 /// Adds an item behind the others of a list.
@@ -218,15 +211,6 @@ fn push<T: Drop>(list: &mut Vec<T>, item: T) -> Result<(), Memory>
 {
     list.push(item)?;
     Ok(())
-}
-
-/// At most so many of these items, from one on.
-fn part_of<T>(items: &[T], from: usize, most: usize) -> &[T]
-    ensures { result.now ≡ take most (drop from items.now) }
-{
-    let start = from.min(items.len());
-    let count = most.min(items.len() - start);
-    &items[start..start + count]
 }
 
 /// Adds the index of an event to the processors that it touches, where a `u32` counts so many.

@@ -4,7 +4,6 @@ use Rattle.std.proofs.Common.{min, Option, Some, None, refl, sym, ap, ◌∙◌,
 use Rattle.std.specs.List.{prefix_len}
 use Rattle.std.proofs.lemmas.List.{drop_more}
 use Rattle.text_parts.specs.Numerals.{is_digit, value_of, many, IsNumeral}
-use Rattle.text_parts.specs.Pieces.{IsRunOf}
 use Rattle.text_parts.specs.Reading.{◌>>=◌, after_text, front_value, nanoseconds_of, numeral_at, fraction_at, time_at}
 use Rattle.text_parts.proofs.Runs.{digits_in_front, DigitsInFront}
 

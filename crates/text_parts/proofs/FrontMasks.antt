@@ -12,13 +12,13 @@ use Rattle.text_parts.specs.Numerals.{is_digit}
 use Rattle.text_parts.specs.Packed.{less_zero, is_above_nine}
 use Rattle.text_parts.proofs.FrontValues.{digit_byte}
 
-digit_from : (byte : ℕ) → byte < 256 → is_above_nine (less_zero byte) ≡ false → is_digit byte ≡ true
+pub digit_from : (byte : ℕ) → byte < 256 → is_above_nine (less_zero byte) ≡ false → is_digit byte ≡ true
 digit_from byte fits e =
     let most : (byte + 208) % 256 ≤ 9 = ltb-false 9 ((byte + 208) % 256) e in
     and_from (leb 48 byte) (leb byte 57) (le-leb 48 byte (omega (arith, most, fits)))
     (le-leb byte 57 (omega (arith, most, fits)))
 
-other_from : (byte : ℕ) → is_above_nine (less_zero byte) ≡ true → is_digit byte ≡ false
+pub other_from : (byte : ℕ) → is_above_nine (less_zero byte) ≡ true → is_digit byte ≡ false
 other_from byte e =
     let above : 9 < (byte + 208) % 256 = ltb-true 9 ((byte + 208) % 256) e in
     false_from_ne_true (is_digit byte) (λ digit.

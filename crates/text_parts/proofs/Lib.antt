@@ -5,6 +5,7 @@ pub mod Digits
 pub mod Packing
 pub mod FrontValues
 pub mod FrontMasks
+pub mod FrontRuns
 pub mod LongFronts
 pub mod Runs
 pub mod Fronts

@@ -1,4 +1,4 @@
--- Digits that are read eight at a time. Nothing here is to be believed.
+-- Bytes that are read eight at a time. Nothing here is to be believed.
 use Rattle.std.specs.Prelude.{◌≡◌, ℕ, ◌+◌, ◌*◌, ◌%◌, ◌<◌, ◌≤◌, Bool, true, false, List, nat_lt, take, get_or}
 use Rattle.text_parts.specs.Numerals.{is_digit, value_of}
 
@@ -22,3 +22,9 @@ pub record BeginsWithDigits (text : List ℕ) (count value : ℕ) : Type 0 where
   pub passed : (k : ℕ) → k < count → is_digit (get_or text k 0) ≡ true
   pub stops : count < 8 → is_digit (get_or text count 0) ≡ false
   pub value_is : value ≡ value_of (take count text)
+
+-- so many bytes in front pass a test, up to eight
+pub record BeginsWithRun (test : ℕ → Bool) (text : List ℕ) (count : ℕ) : Type 0 where
+  pub few : count ≤ 8
+  pub passed : (k : ℕ) → k < count → test (get_or text k 0) ≡ true
+  pub stops : count < 8 → test (get_or text count 0) ≡ false

@@ -4,6 +4,8 @@ ghost use Rattle.std.specs.List.{prefix_len};
 ghost use Rattle.text_parts.specs.Numerals.{is_digit, value_of};
 ghost use Rattle.text_parts.specs.Reading.{Gives, numeral_at};
 
+use crate::packed::{TOGETHER, digits_in_front};
+
 /// The value that stands for itself and for all larger ones. No range of this project reaches it.
 pub const MANY: u64 = 10 * LIMIT;
 
@@ -34,9 +36,9 @@ pub fn digit_count(text: &[u8]) -> usize
     ensures count { result ≡ prefix_len is_digit text.now }
     ensures within { result ≤ length text.now }
 {
-    if text.len() >= FEW_DIGITS {
-        let count = digits_in(&text[..FEW_DIGITS]);
-        if count < FEW_DIGITS {
+    if text.len() >= TOGETHER {
+        let count = digits_in_front(text);
+        if count < TOGETHER {
             return count;
         }
     }

@@ -1,17 +1,21 @@
-//! Numbers of many digits: eight digits are read at a time.
+//! Runs of bytes at the front of a text, and numbers: eight bytes are looked at together, with no branch to guess, since
+//! numbers have all lengths.
 
 ghost use Rattle.std.specs.Prelude.{◌≡◌, ℕ, ◌+◌, ◌*◌, ◌<◌, ◌≤◌, ◌^◌, length, take, drop, min, map, get_or, true};
+ghost use Rattle.std.specs.Prelude.{◌==◌, if◌then◌else◌, not};
+ghost use Rattle.std.specs.Int.Count.{count_trailing_zeros};
 ghost use Rattle.std.specs.List.{prefix_len, take_while};
 ghost use Rattle.std.specs.Simd.Lanes.{mask_l, number_l};
 ghost use Rattle.text_parts.specs.Numerals.{is_digit, value_of, many};
-ghost use Rattle.text_parts.specs.Packed.{is_above_nine, less_zero, Joins, BeginsWithDigits};
+ghost use Rattle.text_parts.specs.Pieces.{is_space};
+ghost use Rattle.text_parts.specs.Packed.{is_above_nine, less_zero, Joins, BeginsWithDigits, BeginsWithRun};
 ghost use Rattle.text_parts.specs.Reading.{Gives, numeral_at};
 
 use crate::numerals::further_digits;
 use std::simd::prelude::*;
 
 /// So many bytes are looked at together.
-const TOGETHER: usize = 8;
+pub(crate) const TOGETHER: usize = 8;
 
 /// What digits before others are worth, by how many others there are.
 const TENS: [u64; TOGETHER] = [1, 10, 100, 1_000, 10_000, 100_000, 1_000_000, 10_000_000];
@@ -30,9 +34,9 @@ pub fn long_numeral_at(text: &[u8]) -> Option<(u64, &[u8])>
     }
 }
 
-/// How many digits a text begins with, and their value.
+/// How many digits a text begins with, and their value, or `MANY` where it is larger.
 #[inline(always)]
-fn digits_at(text: &[u8]) -> (usize, u64)
+pub fn digits_at(text: &[u8]) -> (usize, u64)
     ensures count { result.0 ≡ prefix_len is_digit text.now }
     ensures within { result.0 ≤ length text.now }
     ensures value { result.1 ≡ min (value_of (take_while is_digit text.now)) many }
@@ -65,6 +69,44 @@ fn behind_eight(text: &[u8], front: u64) -> (usize, u64)
         return further_digits(text, TOGETHER, front);
     }
     (TOGETHER + more, front * TENS[more] + value)
+}
+
+/// How many of the first eight bytes of a text are digits at its front.
+#[inline(always)]
+pub(crate) fn digits_in_front(text: &[u8]) -> usize
+    requires { 8 ≤ length text.now }
+    ensures { BeginsWithRun is_digit text.now result }
+{
+    first_set(others(digits_in(text)))
+}
+
+/// How many of the first eight bytes of a text are spaces at its front.
+#[inline(always)]
+pub(crate) fn spaces_in_front(text: &[u8]) -> usize
+    requires { 8 ≤ length text.now }
+    ensures { BeginsWithRun is_space text.now result }
+{
+    first_set(no_spaces(u8x8::from_slice(text)))
+}
+
+/// Which of eight bytes are no spaces, by a bit for each.
+#[inline(always)]
+fn no_spaces(bytes: u8x8) -> u64
+    ensures { result ≡ mask_l (map (λ byte. not (is_space byte)) bytes) }
+{
+    bytes.simd_ne(u8x8::splat(b' ')).to_bitmask()
+}
+
+/// Which of eight bits is the lowest that is set; 8 where none is.
+#[inline(always)]
+pub fn first_set(mask: u64) -> usize
+    ensures { result ≡ (if mask == 0 then 8 else count_trailing_zeros 64 mask) }
+{
+    if mask == 0 {
+        TOGETHER
+    } else {
+        mask.trailing_zeros() as usize
+    }
 }
 
 /// How many of the first eight bytes of a text are digits at its front, and their value.

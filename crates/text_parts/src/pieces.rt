@@ -4,10 +4,8 @@ ghost use Rattle.text_parts.specs.Numerals.{is_digit};
 ghost use Rattle.text_parts.specs.Pieces.{is_space, begins_with};
 ghost use Rattle.text_parts.specs.Reading.{Gives, after_text, after_run};
 
-use crate::numerals::{digit_count, long_digit_count};
-
-/// Most gaps are narrower. These are looked at with no loop, and with no look at where the text ends.
-const NARROW: usize = 8;
+use crate::numerals::digit_count;
+use crate::packed::{TOGETHER, spaces_in_front};
 
 /// What follows this byte at the front.
 #[inline(always)]
@@ -30,15 +28,6 @@ pub fn after_digits(text: &[u8]) -> Option<&[u8]>
     beyond(text, digit_count(text))
 }
 
-/// What follows one or more digits, by a call.
-#[inline(always)]
-#[tactic(auto, unfolding(crate::specs::Reading::after_run))]
-pub fn after_digits_by_call(text: &[u8]) -> Option<&[u8]>
-    ensures { Gives (λ x. x.now) result (after_run is_digit text.now) }
-{
-    beyond(text, long_digit_count(text))
-}
-
 /// What follows one or more spaces.
 #[inline(always)]
 #[tactic(auto, unfolding(crate::specs::Reading::after_run))]
@@ -55,22 +44,6 @@ pub fn after_gap_by_call(text: &[u8]) -> Option<&[u8]>
     ensures { Gives (λ x. x.now) result (after_run is_space text.now) }
 {
     beyond(text, wide_gap(text))
-}
-
-/// What follows the spaces of a narrow gap. Of others, nothing is told.
-#[inline(always)]
-#[tactic(auto, unfolding(crate::specs::Reading::after_run), using(crate::proofs::Runs::run_in_front))]
-pub fn after_narrow_gap(text: &[u8]) -> Option<&[u8]>
-    ensures { IfSome result (λ rest. after_run is_space text.now ≡ Some rest.now) }
-{
-    if text.len() < NARROW {
-        return None;
-    }
-    let width = spaces_in(&text[..NARROW]);
-    if width == 0 || width == NARROW {
-        return None;
-    }
-    Some(&text[width..])
 }
 
 /// What follows so many bytes, where there are some.
@@ -92,32 +65,23 @@ fn gap_width(text: &[u8]) -> usize
     ensures count { result ≡ prefix_len is_space text.now }
     ensures within { result ≤ length text.now }
 {
-    if text.len() >= NARROW {
-        let width = spaces_in(&text[..NARROW]);
-        if width < NARROW {
+    if text.len() >= TOGETHER {
+        let width = spaces_in_front(text);
+        if width < TOGETHER {
             return width;
         }
     }
     wide_gap(text)
 }
 
-/// How many spaces stand at the front of some bytes, which are looked at one by one.
-#[inline(always)]
-#[tactic(auto, using(crate::proofs::Runs::prefix_within))]
-fn spaces_in(bytes: &[u8]) -> usize
-    ensures count { result ≡ prefix_len is_space bytes.now }
-    ensures within { result ≤ length bytes.now }
-{
-    bytes.iter().take_while(|byte| **byte == b' ').count()
-}
-
 /// How many spaces a text begins with, away from the readers of narrow gaps.
 #[inline(never)]
+#[tactic(auto, using(crate::proofs::Runs::prefix_within))]
 fn wide_gap(text: &[u8]) -> usize
     ensures count { result ≡ prefix_len is_space text.now }
     ensures within { result ≤ length text.now }
 {
-    spaces_in(text)
+    text.iter().take_while(|byte| **byte == b' ').count()
 }
 
 /// Whether a text begins with these bytes. They are compared eight at a time, so that a front that is a literal costs a

@@ -1,5 +1,5 @@
 -- Behind the last window: the tallies kept add up to the run's summary, and none of their sums is too great.
-use Rattle.std.proofs.Common.{◌≡◌, ℕ, List, [], ◌∷◌, zero, suc, length, map, get_or, refl, sym, ap, ◌∙◌, subst, All}
+use Rattle.std.proofs.Common.{◌≡◌, ℕ, List, [], ◌∷◌, zero, suc, length, get_or, refl, sym, ap, ◌∙◌, subst, All}
 use Rattle.std.proofs.Math.Path.{fun_ext}
 use Rattle.std.proofs.lemmas.List.{get_or-map}
 use Rattle.cfs_model.specs.Claimed.{Claimed}
@@ -15,7 +15,6 @@ use Rattle.ticket_book.specs.Told.{view_at}
 use Rattle.ticket_book.proofs.Extent.{bounds_fit}
 use Rattle.window_laws.specs.WindowEnds.{SoFarTellsSummary}
 use Rattle.window_audit.specs.Audit.{Beginning, IsSummaryOf, IsWhole}
-use Rattle.window_audit.specs.Member.{replay_of}
 use Rattle.window_audit.specs.States.{state_at}
 use Rattle.window_audit.specs.declared.audit.WindowAudit.{WindowAudit}
 use Rattle.window_audit.specs.declared.member.Member.{Member}

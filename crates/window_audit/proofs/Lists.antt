@@ -1,7 +1,7 @@
 -- Lists of members index by index, and the last of a window's events.
 use Rattle.std.proofs.Common.{◌≡◌, ◌≢◌, ℕ, zero, suc, ◌+◌, ◌-◌, ◌<◌, ◌≤◌, List, [], ◌∷◌, ◌++◌, length, map, take, drop}
 use Rattle.std.proofs.Common.{get_or, set}
-use Rattle.std.proofs.Common.{get_or-set_same, get_or-set_other, inl, inr, Option, Some, Bool, true, false, cond, refl}
+use Rattle.std.proofs.Common.{get_or-set_same, get_or-set_other, inl, inr, Some, Bool, true, false, cond, refl}
 use Rattle.std.proofs.Common.{sym, ap, ◌∙◌, subst, arith}
 use Rattle.std.specs.Prelude.{slice_get, filter}
 use Rattle.std.proofs.lemmas.Bool.{cases_lt}
@@ -10,7 +10,6 @@ use Rattle.cfs_model.proofs.Moves.{same_or_not}
 use Rattle.cfs_model.specs.Claimed.{Claimed}
 use Rattle.cfs_model.specs.declared.act.Entry.{Entry}
 use Rattle.replay_model.specs.Cut.{last_line_after, last_time_of, steps_at, touches}
-use Rattle.replay_model.specs.Noted.{PageView}
 use Rattle.replay_model.specs.StepAt.{step_at}
 use Rattle.ticket_book.specs.Told.{view_at}
 use Rattle.window_audit.specs.Last.{IsLastOf}

@@ -1,8 +1,8 @@
 -- A window that all processors went through: their pages suffice in it, so where these say nothing the events with it
 -- are a run so far, and what is kept is where the replays stand; else the first thing that they say is the first fault.
-use Rattle.std.proofs.Common.{◌≡◌, ◌≢◌, ℕ, zero, suc, ◌+◌, ◌^◌, ◌<◌, ◌≤◌, nat_lt, nat_le, Bool, true, false, cond, List}
+use Rattle.std.proofs.Common.{◌≡◌, ◌≢◌, ℕ, zero, suc, ◌+◌, ◌^◌, ◌<◌, ◌≤◌, nat_lt, nat_le, Bool, true, false, List}
 use Rattle.std.proofs.Common.{[]}
-use Rattle.std.proofs.Common.{◌∷◌, ◌++◌, length, map, take, get_or, Option, Some, None, inl, inr, refl, sym, ap, ◌∙◌}
+use Rattle.std.proofs.Common.{◌∷◌, ◌++◌, length, map, get_or, Option, Some, None, inl, inr, refl, sym, ap, ◌∙◌}
 use Rattle.std.proofs.Common.{subst}
 use Rattle.std.proofs.Common.{All, arith}
 use Rattle.std.specs.Prelude.{filter}
@@ -40,7 +40,7 @@ use Rattle.window_laws.proofs.Appended.{all_back}
 use Rattle.window_audit.specs.Audit.{Beginning, ComesNext, IsAuditOf, IsToldOf}
 use Rattle.window_audit.specs.Last.{IsLastOf}
 use Rattle.window_audit.specs.Member.{IsThroughWindow, replay_of}
-use Rattle.window_audit.specs.States.{AllWentThrough, AreOwn, IsOwn, empty_state, forgotten, state_at}
+use Rattle.window_audit.specs.States.{AllWentThrough, AreOwn, empty_state, forgotten, state_at}
 use Rattle.window_audit.specs.declared.audit.WindowAudit.{WindowAudit}
 use Rattle.window_audit.specs.declared.member.Member.{Member}
 use Rattle.window_audit.proofs.Lists.{element, last_line_behind, last_time_behind, page_here, state_here, steps_few}

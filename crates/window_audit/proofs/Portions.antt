@@ -1,9 +1,8 @@
 -- A replay by some steps and then by those behind them went through all of these.
-use Rattle.std.proofs.Common.{◌≡◌, ℕ, ◌+◌, ◌-◌, ◌^◌, ◌<◌, ◌≤◌, min, List, ◌++◌, length, take, drop}
+use Rattle.std.proofs.Common.{◌≡◌, ℕ, ◌+◌, ◌^◌, ◌<◌, ◌≤◌, List, [], ◌∷◌, ◌++◌, length, take, get_or}
 use Rattle.std.proofs.Common.{Option, Some, None, refl, sym}
 use Rattle.std.proofs.Common.{ap, ◌∙◌, subst, arith}
-use Rattle.std.proofs.lemmas.List.{length-append, length-drop, length-take, take_all, take_min}
-use Rattle.std.proofs.Math.Seq.{take-add}
+use Rattle.std.proofs.lemmas.List.{length-append, length-take, take_all, take_more}
 use Rattle.cfs_model.specs.Least.{larger}
 use Rattle.cfs_model.proofs.LeastSettings.{larger_of_three}
 use Rattle.replay_model.specs.Needs.{AllPassNeeding}
@@ -12,7 +11,6 @@ use Rattle.replay_model.specs.declared.page.StepFault.{StepFault}
 use Rattle.replay_model.specs.declared.step.Step.{Step}
 use Rattle.replay_model.proofs.Replayed.{IsReplay-append, stays_faulted}
 use Rattle.queue_replay.specs.Windowed.{GoesThrough, WindowedView}
-use Rattle.queue_replay.proofs.Windows.{through_none}
 use Rattle.window_laws.proofs.NeedsAppended.{needs_append}
 
 -- what had a fault has it behind more steps
@@ -49,47 +47,22 @@ goes_on before between after steps more g h = record {
       };
 }
 
--- so many of all steps are behind it, and some that come next are at hand
-pub record IsDealt (before : WindowedView) (all : List Step) (most dealt : ℕ) (steps : List Step) (now : WindowedView)
-    : Type 0 where
-  pub through : GoesThrough before (take dealt all) now
-  pub within : dealt ≤ length all
-  pub next : steps ≡ take most (drop dealt all)
+-- so many of all steps are made
+module _ (before : WindowedView) (all : List Step) (k : ℕ) (now : WindowedView)
+    (made : GoesThrough before (take k all) now) where
+  -- there is room to count one more
+  pub room_for_one : k < length all → before.made + length all < 2 ^ 64 → now.made + 1 < 2 ^ 64
+  room_for_one h few =
+      let n = length-take k all in
+      let m = made.at_most in
+      omega (arith, n, m, h, few)
 
-pub dealt_none : (before : WindowedView) (all : List Step) (most : ℕ) (steps : List Step)
-    → steps ≡ take most (drop 0 all) → IsDealt before all most 0 steps before
-dealt_none before all most steps next = record { through = through_none before; within = omega arith; next = next }
+  pub one_more : (new : WindowedView) (step : Step) → k < length all → get_or all k step ≡ step
+      → GoesThrough now (step ∷ []) new → GoesThrough before (take (k + 1) all) new
+  one_more new step h is g =
+      subst (λ l. GoesThrough before l new)
+      (ap (λ s. take k all ++ s ∷ []) (sym is) ∙ sym (take_more all k step h))
+      (goes_on before now new (take k all) (step ∷ []) made g)
 
-module _ (before : WindowedView) (all : List Step) (most dealt : ℕ) (steps : List Step) (now : WindowedView)
-    (at : IsDealt before all most dealt steps now) where
-  size : length steps ≡ min most (length all - dealt)
-  size = ap length at.next ∙ length-take most (drop dealt all) ∙ ap (min most) (length-drop dealt all)
-
-  pub within_more : dealt + length steps ≤ length all
-  within_more = (let n = size in let h = at.within in omega (arith, n, h))
-
-  pub few : before.made + length all < 2 ^ 64 → now.made + length steps < 2 ^ 64
-  few h =
-      let n = length-take dealt all in
-      let m = at.through.at_most in
-      let w = within_more in
-      omega (arith, n, m, w, h)
-
-  pub dealt_more : (new : WindowedView) (taken more : List Step) (count : ℕ) → taken ≡ steps → count ≡ length steps
-      → GoesThrough now taken new → more ≡ take most (drop (dealt + count) all)
-      → IsDealt before all most (dealt + count) more new
-  dealt_more new taken more count same is g next = record {
-    through = subst (λ l. GoesThrough before l new)
-        (ap (λ l. take dealt all ++ l) (same ∙ at.next ∙ sym (take_min most (drop dealt all))
-        ∙ ap (λ n. take n (drop dealt all))
-        (sym (length-take most (drop dealt all)) ∙ sym (ap length at.next) ∙ sym is))
-        ∙ sym (take-add dealt count all))
-        (goes_on before now new (take dealt all) taken at.through g);
-    within = (let w = within_more in omega (arith, w, is));
-    next = next;
-  }
-
-  pub dealt_all : 0 < most → length steps ≡ 0 → GoesThrough before all now
-  dealt_all some none =
-      subst (λ l. GoesThrough before l now) (take_all dealt all (let n = size in omega (arith, n, some, none)))
-      at.through
+  pub all_made : length all ≤ k → GoesThrough before all now
+  all_made end = subst (λ l. GoesThrough before l now) (take_all k all end) made

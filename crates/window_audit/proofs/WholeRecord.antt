@@ -1,17 +1,16 @@
 -- A whole record in windows: what was seen so far is a front of its events, the window is what comes next, and behind
 -- the last window all were seen.
-use Rattle.std.proofs.Common.{◌≡◌, ◌≢◌, ℕ, zero, suc, ◌+◌, ◌-◌, ◌^◌, ◌<◌, ◌≤◌, min, List, [], ◌∷◌, ◌++◌, length}
-use Rattle.std.proofs.Common.{take, drop, refl, sym, ap, ◌∙◌, subst, All, arith}
+use Rattle.std.proofs.Common.{◌≡◌, ◌≢◌, ℕ, zero, suc, ◌+◌, ◌^◌, ◌<◌, ◌≤◌, List, [], ◌∷◌, ◌++◌, length}
+use Rattle.std.proofs.Common.{take, drop, refl, sym, ap, ◌∙◌, subst, arith}
 use Rattle.std.specs.List.{AllByRecursion}
 use Rattle.std.proofs.lemmas.List.{length-drop, length-map, length-take, take-append-drop}
 use Rattle.std.proofs.lemmas.List.{take_all, take_min}
-use Rattle.cfs_model.specs.Claimed.{Claimed, claimed, with_claim}
+use Rattle.cfs_model.specs.Claimed.{Claimed, with_claim}
 use Rattle.cfs_model.specs.Knobs.{KnobsView}
 use Rattle.cfs_model.specs.Limits.{greatest_setting}
 use Rattle.cfs_model.specs.Start.{start_machine}
 use Rattle.cfs_model.specs.Touch.{touched}
 use Rattle.cfs_model.specs.declared.act.Entry.{Entry}
-use Rattle.cfs_model.specs.declared.task.Task.{Task}
 use Rattle.replay_laws.specs.FirstFaults.{FaultIsFirstBad}
 use Rattle.replay_model.specs.Cause.{IsFirstFault}
 use Rattle.replay_model.specs.Record.{ChargeInRange, ClaimInRange, IsRecord, LinesRise, TimesRise}

@@ -10,15 +10,13 @@ use queue_replay::{Paged, WindowedReplay};
 use replay_model::{Step, StepFault, Tally, Ticket};
 use sched_record::Window;
 use std::alloc::Global;
-
-/// How many steps are dealt at once: so few that they stay near until they are replayed.
-const STEPS_AT_ONCE: usize = 128;
+use std::slice::from_ref;
 
 /// One processor of an audit in windows.
 #[derive(Drop)]
 pub(crate) struct Member {
     pub replay: WindowedReplay,
-    /// Some steps of the window at hand; the room for them is used again.
+    /// Its steps of the window at hand, where that keeps no indices of its events.
     pub steps: Vec<Step>,
     /// Whether a growth was refused in it.
     pub wants_memory: bool,
@@ -36,7 +34,7 @@ impl Member {
         }
     }
 
-    /// Deals the window's steps, replays them, and makes the end test at the time and line of its last event.
+    /// Replays the window's steps, and makes the end test at the time and line of its last event.
     pub(crate) fn go_through(&mut self, window: &Window, last_time: u64, last_line: u32)
         requires { (replay_of self.old).made + length (steps_at (replay_of self.old).cpu (window_view window.now))
             < 2 ^ 64 }
@@ -58,7 +56,7 @@ impl Member {
         Ok(())
     }
 
-    /// Replays the window's steps, so many at once.
+    /// Replays the window's steps, each as soon as it is made.
     fn replay_steps(&mut self, window: &Window) -> Result<(), Memory>
         requires { (replay_of self.old).made + length (steps_at (replay_of self.old).cpu (window_view window.now))
             < 2 ^ 64 }
@@ -66,14 +64,27 @@ impl Member {
             (steps_at (replay_of self.old).cpu (window_view window.now)) (replay_of self.new)) }
     {
         let cpu = self.replay.cpu();
-        let mut dealt = 0;
-        window.deal_some(cpu, dealt, STEPS_AT_ONCE, &mut self.steps)?;
-        while !self.steps.is_empty() {
-            self.replay.go_through(&self.steps)?;
-            dealt += self.steps.len();
-            window.deal_some(cpu, dealt, STEPS_AT_ONCE, &mut self.steps)?;
+        let Some(indices) = window.touching(cpu) else {
+            return self.replay_dealt(window);
+        };
+        for index in indices {
+            let step = window.step(*index, cpu);
+            self.replay.go_through(from_ref(&step))?;
         }
         Ok(())
+    }
+
+    /// The same where the window keeps no indices: its steps are dealt first.
+    #[cold]
+    #[inline(never)]
+    fn replay_dealt(&mut self, window: &Window) -> Result<(), Memory>
+        requires { (replay_of self.old).made + length (steps_at (replay_of self.old).cpu (window_view window.now))
+            < 2 ^ 64 }
+        ensures { OnOk result (GoesThrough (replay_of self.old)
+            (steps_at (replay_of self.old).cpu (window_view window.now)) (replay_of self.new)) }
+    {
+        window.deal(self.replay.cpu(), &mut self.steps)?;
+        self.replay.go_through(&self.steps)
     }
 
     /// Empties the lists of its page.

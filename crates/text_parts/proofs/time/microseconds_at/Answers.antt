@@ -1,4 +1,4 @@
-use Rattle.std.proofs.Common.{◌≡◌, get_or, length, take, drop, ◌-◌, sym, arith, rules}
+use Rattle.std.proofs.Common.{◌≡◌, get_or, length, take, drop, ◌-◌, sym, rules}
 use Rattle.std.proofs.lemmas.List.{take_rest}
 use Rattle.text_parts.proofs.Fractions.{micro_fraction}
 use Rattle.text_parts.proofs.time.microseconds_at.Goals as goal

@@ -1,4 +1,4 @@
-use Rattle.std.proofs.Common.{◌<◌, ◌≤◌, ◌≡◌, length, take, None, sym, ap, subst, arith, ◌∙◌}
+use Rattle.std.proofs.Common.{◌≤◌, length, take, ap, subst, arith, ◌∙◌}
 use Rattle.std.proofs.lemmas.List.{length-map}
 use Rattle.cfs_model.specs.Claimed.{Claimed}
 use Rattle.cfs_model.specs.Limits.{greatest_setting}

@@ -2,12 +2,26 @@ use Rattle.std.proofs.Common.{◌∙◌, arith}
 use Rattle.std.proofs.lemmas.List.{take_all}
 use Rattle.replay_model.specs.Cut.{steps_at}
 use Rattle.sched_record.specs.Window.{window_view}
-use Rattle.sched_record.proofs.WindowIndices.{steps_at_most}
+use Rattle.sched_record.proofs.Windows.{said_length}
+use Rattle.sched_record.proofs.WindowIndices.{deals_next}
 use Rattle.sched_record.proofs.window.Window.deal.Goals as goal
+
+pub push_step-requires : goal.push_step-requires
+push_step-requires c =
+    let self = c.args.self.now in
+    let n = said_length self.events.items self.sayings self.paired in
+    let h = c.in-Some.ensures.within c.loop-index.index-index c.loop-index-test.true in
+    omega (arith, n, h)
+
+pub loop-index-preserved : goal.loop-index-preserved
+loop-index-preserved c =
+    deals_next c.args.cpu (window_view c.args.self.now) _ c.in-Some.ensures c.loop-index.index-index
+    c.loop-index.steps.items c.push_step.new.steps.items c.loop-index-test.true c.loop-index.invariant
+    c.in_ok-push_step.ensures
 
 pub returns : goal.returns
 returns c =
-    let self = c.args.self.now in
-    let all = steps_at c.args.cpu (window_view self) in
-    let few = steps_at_most c.args.cpu self.events.items self.sayings in
-    c.in_ok-deal_some.ensures ∙ take_all c.len.result all (let n = c.len.ensures in omega (arith, few, n))
+    let n = c.in-Some.ensures.count in
+    let t = c.loop-index-test.false in
+    c.loop-index.invariant
+    ∙ take_all c.loop-index.index-index (steps_at c.args.cpu (window_view c.args.self.now)) (omega (arith, n, t))

@@ -10,8 +10,6 @@ use Rattle.replay_model.specs.declared.first_fault.FirstFault.{FirstFault}
 use Rattle.sched_record.specs.Window.{window_view}
 use Rattle.ticket_book.specs.Told.{TellFrom, view_at}
 use Rattle.ticket_book.specs.Walk.{TicketsRise}
-use Rattle.window_laws.specs.InWindow.{SayNothingInWindow}
-use Rattle.window_audit.specs.Audit.{Beginning, ComesNext}
 use Rattle.window_audit.specs.Member.{replay_of}
 use Rattle.window_audit.specs.States.{AllWentThrough, forgotten}
 use Rattle.window_audit.specs.declared.member.Member.{Member}

@@ -1,49 +1,54 @@
-use Rattle.std.proofs.Common.{◌+◌, ◌∙◌, drop, length, sym, ap, take, vec_len, arith}
-use Rattle.std.proofs.lemmas.Bool.{eqb-true, eqb-false}
+use Rattle.std.proofs.Common.{◌≡◌, ◌<◌, length, subst, arith}
+use Rattle.queue_replay.proofs.Windows.{through_none}
+use Rattle.queue_replay.specs.Windowed.{GoesThrough, windowed_view}
 use Rattle.replay_model.specs.Cut.{steps_at}
-use Rattle.sched_record.specs.Window.{window_view}
-use Rattle.window_audit.proofs.Portions.{dealt_all, dealt_more, dealt_none, few, within_more}
+use Rattle.replay_model.specs.StepAt.{step_at}
+use Rattle.sched_record.specs.Window.{AreTouching, window_view}
+use Rattle.sched_record.proofs.WindowIndices.{step_found}
+use Rattle.window_audit.specs.Member.{replay_of}
+use Rattle.window_audit.proofs.Portions.{all_made, one_more, room_for_one}
 use Rattle.window_audit.proofs.member.Member.replay_steps.Goals as goal
 
-pub loop-self-init : goal.loop-self-init
-loop-self-init c =
-    dealt_none _ _ 128 _
-    (c.in_ok-deal_some.ensures
-    ∙ ap (λ cpu. take 128 (drop 0 (steps_at cpu (window_view c.args.window.now)))) c.cpu-cpu.ensures)
+pub loop-index-init : goal.loop-index-init
+loop-index-init c = through_none (replay_of c.args.self.now)
+
+pub step-step-requires : goal.step-step-requires
+step-step-requires c = c.in-Some.ensures.within c.loop-index.index-index c.loop-index-test.true
 
 pub go_through-requires : goal.go_through-requires
 go_through-requires c =
-    let h = few _ _ _ _ _ _ c.loop-self.invariant c.requires in
-    let n = ap length c.deref.ensures.value in
-    record { few = omega (arith, h, n) }
+    let before = replay_of c.args.self.now in
+    let events = window_view c.args.window.now in
+    let at : AreTouching before.cpu events c.in-Some.indices.now =
+    subst (λ cpu. AreTouching cpu events c.in-Some.indices.now) c.cpu-cpu.ensures c.in-Some.ensures in
+    let h : c.loop-index.index-index < length (steps_at before.cpu events) =
+    (let n = at.count in let t = c.loop-index-test.true in omega (arith, n, t)) in
+    let one = c.from_ref.ensures.len in
+    let room = room_for_one before (steps_at before.cpu events) c.loop-index.index-index
+    (replay_of c.loop-index.self) c.loop-index.invariant h c.requires in
+    record { few = omega (arith, room, one) }
 
-pub overflow_add-dealt : goal.overflow_add-dealt
-overflow_add-dealt c =
-    let w = within_more _ _ _ _ _ _ c.loop-self.invariant in
-    let h = c.requires in
-    let n = c.len-dealt.ensures in
-    let k = c.loop-self.self.steps.ok in
-    omega (arith, w, h, n, k)
-
-pub loop-self-smaller : goal.loop-self-smaller
-loop-self-smaller c =
-    let w = within_more _ _ _ _ _ _ c.loop-self.invariant in
-    let n = c.len-dealt.ensures in
-    let k = c.loop-self.self.steps.ok in
-    let some = eqb-false (vec_len c.loop-self.self.steps) 0 (sym c.is_empty.ensures ∙ c.loop-self-test.true) in
-    omega (arith, w, n, k, some)
-
-pub loop-self-preserved : goal.loop-self-preserved
-loop-self-preserved c =
-    dealt_more _ _ _ _ _ _ c.loop-self.invariant _ _ _ _ c.deref.ensures.value
-    (let n = c.len-dealt.ensures in let k = c.loop-self.self.steps.ok in omega (arith, n, k))
-    c.in_ok-go_through.ensures.through
-    (c.in_ok-deal_some-2.ensures
-    ∙ ap (λ cpu. take 128 (drop (c.loop-self.dealt + c.len-dealt.result)
-    (steps_at cpu (window_view c.args.window.now)))) c.cpu-cpu.ensures)
+pub loop-index-preserved : goal.loop-index-preserved
+loop-index-preserved c =
+    let before = replay_of c.args.self.now in
+    let events = window_view c.args.window.now in
+    let at : AreTouching before.cpu events c.in-Some.indices.now =
+    subst (λ cpu. AreTouching cpu events c.in-Some.indices.now) c.cpu-cpu.ensures c.in-Some.ensures in
+    let h : c.loop-index.index-index < length (steps_at before.cpu events) =
+    (let n = at.count in let t = c.loop-index-test.true in omega (arith, n, t)) in
+    one_more before (steps_at before.cpu events) c.loop-index.index-index (replay_of c.loop-index.self)
+    c.loop-index.invariant (windowed_view c.go_through.new.self) c.step-step.result h
+    (step_found before.cpu events c.in-Some.indices.now at c.loop-index.index-index c.step-step.result
+    c.loop-index-test.true (λ here stands. subst (λ cpu. c.step-step.result ≡ step_at cpu here) c.cpu-cpu.ensures
+    (c.step-step.ensures here stands)))
+    (subst (λ steps. GoesThrough (replay_of c.loop-index.self) steps (windowed_view c.go_through.new.self))
+    c.from_ref.ensures.value c.in_ok-go_through.ensures.through)
 
 pub returns : goal.returns
 returns c =
-    let empty = eqb-true (vec_len c.loop-self.self.steps) 0 (sym c.is_empty.ensures ∙ c.loop-self-test.false) in
-    let k = c.loop-self.self.steps.ok in
-    dealt_all _ _ _ _ _ _ c.loop-self.invariant (omega arith) (omega (arith, empty, k))
+    let before = replay_of c.args.self.now in
+    let events = window_view c.args.window.now in
+    let at : AreTouching before.cpu events c.in-Some.indices.now =
+    subst (λ cpu. AreTouching cpu events c.in-Some.indices.now) c.cpu-cpu.ensures c.in-Some.ensures in
+    all_made before (steps_at before.cpu events) c.loop-index.index-index _ c.loop-index.invariant
+    (let n = at.count in let t = c.loop-index-test.false in omega (arith, n, t))

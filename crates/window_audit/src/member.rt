@@ -68,8 +68,8 @@ impl Member {
             return self.replay_dealt(window);
         };
         for index in indices {
-            let step = window.step(*index, cpu);
-            self.replay.go_through(from_ref(&step))?;
+            // With no name of its own, the step isn't copied.
+            self.replay.go_through(from_ref(&window.step(*index, cpu)))?;
         }
         Ok(())
     }

@@ -12,8 +12,8 @@ use Rattle.window_audit.proofs.member.Member.replay_steps.Goals as goal
 pub loop-index-init : goal.loop-index-init
 loop-index-init c = through_none (replay_of c.args.self.now)
 
-pub step-step-requires : goal.step-step-requires
-step-step-requires c = c.in-Some.ensures.within c.loop-index.index-index c.loop-index-test.true
+pub step-requires : goal.step-requires
+step-requires c = c.in-Some.ensures.within c.loop-index.index-index c.loop-index-test.true
 
 pub go_through-requires : goal.go_through-requires
 go_through-requires c =
@@ -37,10 +37,10 @@ loop-index-preserved c =
     let h : c.loop-index.index-index < length (steps_at before.cpu events) =
     (let n = at.count in let t = c.loop-index-test.true in omega (arith, n, t)) in
     one_more before (steps_at before.cpu events) c.loop-index.index-index (replay_of c.loop-index.self)
-    c.loop-index.invariant (windowed_view c.go_through.new.self) c.step-step.result h
-    (step_found before.cpu events c.in-Some.indices.now at c.loop-index.index-index c.step-step.result
-    c.loop-index-test.true (λ here stands. subst (λ cpu. c.step-step.result ≡ step_at cpu here) c.cpu-cpu.ensures
-    (c.step-step.ensures here stands)))
+    c.loop-index.invariant (windowed_view c.go_through.new.self) c.step.result h
+    (step_found before.cpu events c.in-Some.indices.now at c.loop-index.index-index c.step.result
+    c.loop-index-test.true (λ here stands. subst (λ cpu. c.step.result ≡ step_at cpu here) c.cpu-cpu.ensures
+    (c.step.ensures here stands)))
     (subst (λ steps. GoesThrough (replay_of c.loop-index.self) steps (windowed_view c.go_through.new.self))
     c.from_ref.ensures.value c.in_ok-go_through.ensures.through)
 

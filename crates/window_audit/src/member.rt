@@ -68,7 +68,6 @@ impl Member {
             return self.replay_dealt(window);
         };
         for index in indices {
-            // With no name of its own, the step isn't copied.
             self.replay.go_through(from_ref(&window.step(*index, cpu)))?;
         }
         Ok(())

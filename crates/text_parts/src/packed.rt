@@ -1,5 +1,5 @@
-//! Runs of bytes at the front of a text, and numbers: eight bytes are looked at together, with no branch to guess, since
-//! numbers have all lengths.
+//! Runs of bytes at the front of a text, and numbers: eight bytes are looked at together, with no branch to guess,
+//! since numbers have all lengths.
 
 ghost use Rattle.std.specs.Prelude.{◌≡◌, ℕ, ◌+◌, ◌*◌, ◌<◌, ◌≤◌, ◌^◌, length, take, drop, min, map, get_or, true};
 ghost use Rattle.std.specs.Prelude.{◌==◌, if◌then◌else◌, not};

@@ -127,21 +127,21 @@ pub(crate) fn go_through(
     state: &mut ReplayState,
     cpu: u32,
     steps: &[Step],
-    knobs: Knobs,
+    knobs: &Knobs,
 ) -> Result<(), Memory>
     requires few { state.old.made + length steps.now < 2 ^ 64 }
     requires going { state.old.draft.fault ≡ None → IsGoing state.old }
     ensures going { state.new.draft.fault ≡ None → IsGoing state.new }
-    ensures through { OnOk result (GoesThrough (windowed_by cpu knobs state.old) steps.now
-        (windowed_by cpu knobs state.new)) }
-    ensures memory { OnErr result (StopsWithin (windowed_by cpu knobs state.old) steps.now
-        (windowed_by cpu knobs state.new)) }
+    ensures through { OnOk result (GoesThrough (windowed_by cpu knobs.now state.old) steps.now
+        (windowed_by cpu knobs.now state.new)) }
+    ensures memory { OnErr result (StopsWithin (windowed_by cpu knobs.now state.old) steps.now
+        (windowed_by cpu knobs.now state.new)) }
 {
     for step in steps {
         if state.draft.fault.is_some() {
             return Ok(());
         }
-        state.step(cpu, step, &knobs)?;
+        state.step(cpu, step, knobs)?;
     }
     Ok(())
 }

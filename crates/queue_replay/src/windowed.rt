@@ -86,7 +86,7 @@ impl WindowedReplay {
         ensures through { OnOk result (GoesThrough (windowed_view self.old) steps.now (windowed_view self.new)) }
         ensures memory { OnErr result (StopsWithin (windowed_view self.old) steps.now (windowed_view self.new)) }
     {
-        go_through(&mut self.state, self.cpu, steps, self.knobs)
+        go_through(&mut self.state, self.cpu, steps, &self.knobs)
     }
 
     /// The end test, at the time of the last event up to here, in nanoseconds, and its line: whether the processor has

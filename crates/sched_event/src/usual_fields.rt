@@ -16,11 +16,8 @@ use crate::fields::{NAME_MAX, PrioFields, digits};
 use crate::numeral::Numeral;
 use std::simd::prelude::*;
 use text_parts::numerals::doubled;
-use text_parts::packed::first_set;
+use text_parts::packed::{TOGETHER, first_set};
 use text_parts::pieces::{after_front, begins_with};
-
-/// So many bytes of a state are looked at together.
-const TOGETHER: usize = 8;
 
 /// The name behind a key, up to the first place where the next key stands, and the text from that key on.
 #[inline(always)]

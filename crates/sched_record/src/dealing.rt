@@ -1,5 +1,6 @@
 ghost use Rattle.std.specs.Prelude.{◌≡◌, ◌==◌, ℕ, ◌<◌, ◌≤◌, [], length, pos, IfOk, None, Option, slice_index_or};
 ghost use Rattle.cfs_model.specs.Claimed.{charge_at, claim_at, nice_at};
+ghost use Rattle.cfs_model.specs.declared.policy.Policy.TheVariants.{Normal};
 ghost use Rattle.companion_file.specs.Seen.{companion_view};
 ghost use Rattle.replay_model.specs.Cut.{cut, tasks_at};
 ghost use Rattle.processor_stream.specs.Stream.{stream_view};
@@ -240,6 +241,57 @@ pub fn step_at(
         nice: nice_for(&deed, nice),
         charge: charge_for(&deed, charge),
     }
+}
+
+/// Writes such a step, of an event on whose line no more is said than the claim that the step has already. Nothing is
+/// copied on the way, as there are as many steps as events.
+#[inline(always)]
+pub(crate) fn write_usual(event: &Entry, cpu: u32, step: &mut Step)
+    ensures { step.new ≡ step_here cpu (record {
+      entry = event.now;
+      claim = step.old.claim;
+      nice = None;
+      charge = None;
+      policy = Normal;
+    }) }
+{
+    step.line = event.line;
+    step.time = event.time;
+    step.nice = None;
+    step.charge = None;
+    match event.act {
+        Act::Switch {
+            prev,
+            prev_nice,
+            way,
+            next,
+            next_nice,
+            ..
+        } => {
+            step.deed = Deed::Switch {
+                prev,
+                prev_nice,
+                way,
+                next,
+                next_nice,
+            };
+        }
+        Act::Wake { pid, nice, .. } => step.deed = Deed::Wake { pid, nice },
+        Act::Born { .. } | Act::Shift { .. } => write_rare(event.act, cpu, step),
+    }
+}
+
+/// Writes the deed of a birth or a migration, and takes a claim that isn't the processor's. Out of line, as there are
+/// few.
+#[inline(never)]
+fn write_rare(act: Act, cpu: u32, step: &mut Step)
+    ensures { step.new ≡ record step.old {
+      deed = deed_here cpu Normal act;
+      claim = claim_for (deed_here cpu Normal act) step.old.claim;
+    } }
+{
+    step.deed = deed_at(act, Policy::Normal, cpu);
+    step.claim = claim_for(&step.deed, step.claim);
 }
 
 /// What an event does at a processor that it touches, with the policy of who is born or comes.

@@ -1,12 +1,12 @@
 ghost use Rattle.std.specs.Prelude.{◌≡◌, ◌==◌, ℕ, ◌<◌, ◌^◌, ◌++◌, [], ◌∷◌, length, vec_capacity, vec_len};
-ghost use Rattle.std.specs.Prelude.{if◌then◌else◌, ◌≤◌, IfSome, None, OnErr, OnOk};
+ghost use Rattle.std.specs.Prelude.{if◌then◌else◌, ◌≤◌, IfSome, IsSome, None, OnErr, OnOk};
 ghost use Rattle.std.specs.List.{list_any};
 ghost use Rattle.std.proofs.Props.{props};
 ghost use Rattle.cfs_model.specs.Limits.{most_processors};
 ghost use Rattle.cfs_model.specs.Touch.{touched};
 ghost use Rattle.sched_record.specs.Indices.{AreIndicesOf, indices_at, touches_cpu};
 
-use crate::dealing::step_at;
+use crate::dealing::{step_at, write_usual};
 use crate::indices::Indices;
 use crate::sayings::{Said, Sayings};
 use cfs_model::{Act, ChargeLine, Claim, Entry, MOST_PROCESSORS, Memory, NiceLine, Policy};
@@ -103,7 +103,8 @@ impl Window {
     /// processor that no record has, or of more events than a `u32` counts.
     #[inline(always)]
     pub fn touching(&self, cpu: u32) -> Option<&[u32]>
-        ensures { IfSome result (λ indices. AreTouching cpu (window_view self.now) indices.now) }
+        ensures touching { IfSome result (λ indices. AreTouching cpu (window_view self.now) indices.now) }
+        ensures kept { cpu < most_processors → length (window_view self.now) < 2 ^ 32 → IsSome result }
     {
         if cpu as usize >= MOST_PROCESSORS || self.events.len() > u32::MAX as usize {
             return None;
@@ -112,13 +113,31 @@ impl Window {
     }
 
     /// The step of the event at an index, at a processor that it touches.
-    #[inline(always)]
     pub fn step(&self, index: u32, cpu: u32) -> Step
         requires { index < length (window_view self.now) }
         ensures { (here : Claimed) → here ≡ slice_index_or (window_view self.now) index here
             → result ≡ step_here cpu here }
     {
         self.step_of(index as usize, cpu)
+    }
+
+    /// Writes the same in the place of another step, which is faster where there is one.
+    #[inline(always)]
+    pub fn write_step(&self, index: u32, cpu: u32, step: &mut Step)
+        requires { index < length (window_view self.now) }
+        ensures { (here : Claimed) → here ≡ slice_index_or (window_view self.now) index here
+            → step.new ≡ step_here cpu here }
+    {
+        let index = index as usize;
+        match self.sayings.said_at(index) {
+            Said::Nothing => step.claim = None,
+            Said::OneClaim(claim) => step.claim = Some(claim),
+            Said::More(_) => {
+                *step = self.step_of(index, cpu);
+                return;
+            }
+        }
+        write_usual(&self.events[index], cpu, step);
     }
 
     /// The steps of the events that touch a processor, in place of what the list held.
@@ -177,23 +196,8 @@ impl Window {
     }
 
     /// The step of the event at an index of the list of events, at a processor that it touches.
-    #[inline(always)]
-    fn step_of(&self, index: usize, cpu: u32) -> Step
-        requires { index < length self.now.events.items }
-        ensures { (here : Claimed) → here ≡ slice_index_or (window_view self.now) index here
-            → result ≡ step_here cpu here }
-    {
-        let event = self.events[index];
-        match self.sayings.said_at(index) {
-            Said::Nothing => step_at(event, None, None, None, Policy::Normal, cpu),
-            Said::OneClaim(claim) => step_at(event, Some(claim), None, None, Policy::Normal, cpu),
-            Said::More(_) => self.whole_step(index, cpu),
-        }
-    }
-
-    /// The same of an event on whose line more is said than a claim. Out of line, as there are few.
     #[inline(never)]
-    fn whole_step(&self, index: usize, cpu: u32) -> Step
+    fn step_of(&self, index: usize, cpu: u32) -> Step
         requires { index < length self.now.events.items }
         ensures { (here : Claimed) → here ≡ slice_index_or (window_view self.now) index here
             → result ≡ step_here cpu here }

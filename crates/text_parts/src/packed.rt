@@ -15,7 +15,7 @@ use crate::numerals::further_digits;
 use std::simd::prelude::*;
 
 /// So many bytes are looked at together.
-pub(crate) const TOGETHER: usize = 8;
+pub const TOGETHER: usize = 8;
 
 /// What digits before others are worth, by how many others there are.
 const TENS: [u64; TOGETHER] = [1, 10, 100, 1_000, 10_000, 100_000, 1_000_000, 10_000_000];

@@ -56,7 +56,7 @@ impl Member {
         Ok(())
     }
 
-    /// Replays the window's steps, each as soon as it is made.
+    /// Replays the window's steps, each as soon as it is made, in the place of the one before.
     fn replay_steps(&mut self, window: &Window) -> Result<(), Memory>
         requires { (replay_of self.old).made + length (steps_at (replay_of self.old).cpu (window_view window.now))
             < 2 ^ 64 }
@@ -67,8 +67,13 @@ impl Member {
         let Some(indices) = window.touching(cpu) else {
             return self.replay_dealt(window);
         };
+        let [first, ..] = indices else {
+            return Ok(());
+        };
+        let mut step = window.step(*first, cpu);
         for index in indices {
-            self.replay.go_through(from_ref(&window.step(*index, cpu)))?;
+            window.write_step(*index, cpu, &mut step);
+            self.replay.go_through(from_ref(&step))?;
         }
         Ok(())
     }

@@ -9,18 +9,27 @@ use Rattle.window_audit.specs.Member.{replay_of}
 use Rattle.window_audit.proofs.Portions.{all_made, one_more, room_for_one}
 use Rattle.window_audit.proofs.member.Member.replay_steps.Goals as goal
 
+pub returns-in_default-indices : goal.returns-in_default-indices
+returns-in_default-indices c =
+    let before = replay_of c.args.self.now in
+    let events = window_view c.args.window.now in
+    let at : AreTouching before.cpu events c.in-Some.indices.now =
+    subst (λ cpu. AreTouching cpu events c.in-Some.indices.now) c.cpu-cpu.ensures c.in-Some.ensures.touching in
+    all_made before (steps_at before.cpu events) 0 before (through_none before)
+    (let n = at.count in let none = c.in_default-indices.len_below in omega (arith, n, none))
+
 pub loop-index-init : goal.loop-index-init
 loop-index-init c = through_none (replay_of c.args.self.now)
 
-pub step-requires : goal.step-requires
-step-requires c = c.in-Some.ensures.within c.loop-index.index-index c.loop-index-test.true
+pub write_step-requires : goal.write_step-requires
+write_step-requires c = c.in-Some.ensures.touching.within c.loop-index.index-index c.loop-index-test.true
 
 pub go_through-requires : goal.go_through-requires
 go_through-requires c =
     let before = replay_of c.args.self.now in
     let events = window_view c.args.window.now in
     let at : AreTouching before.cpu events c.in-Some.indices.now =
-    subst (λ cpu. AreTouching cpu events c.in-Some.indices.now) c.cpu-cpu.ensures c.in-Some.ensures in
+    subst (λ cpu. AreTouching cpu events c.in-Some.indices.now) c.cpu-cpu.ensures c.in-Some.ensures.touching in
     let h : c.loop-index.index-index < length (steps_at before.cpu events) =
     (let n = at.count in let t = c.loop-index-test.true in omega (arith, n, t)) in
     let one = c.from_ref.ensures.len in
@@ -32,15 +41,16 @@ pub loop-index-preserved : goal.loop-index-preserved
 loop-index-preserved c =
     let before = replay_of c.args.self.now in
     let events = window_view c.args.window.now in
+    let step = c.write_step.new.step in
     let at : AreTouching before.cpu events c.in-Some.indices.now =
-    subst (λ cpu. AreTouching cpu events c.in-Some.indices.now) c.cpu-cpu.ensures c.in-Some.ensures in
+    subst (λ cpu. AreTouching cpu events c.in-Some.indices.now) c.cpu-cpu.ensures c.in-Some.ensures.touching in
     let h : c.loop-index.index-index < length (steps_at before.cpu events) =
     (let n = at.count in let t = c.loop-index-test.true in omega (arith, n, t)) in
     one_more before (steps_at before.cpu events) c.loop-index.index-index (replay_of c.loop-index.self)
-    c.loop-index.invariant (windowed_view c.go_through.new.self) c.step.result h
-    (step_found before.cpu events c.in-Some.indices.now at c.loop-index.index-index c.step.result
-    c.loop-index-test.true (λ here stands. subst (λ cpu. c.step.result ≡ step_at cpu here) c.cpu-cpu.ensures
-    (c.step.ensures here stands)))
+    c.loop-index.invariant (windowed_view c.go_through.new.self) step h
+    (step_found before.cpu events c.in-Some.indices.now at c.loop-index.index-index step
+    c.loop-index-test.true (λ here stands. subst (λ cpu. step ≡ step_at cpu here) c.cpu-cpu.ensures
+    (c.write_step.ensures here stands)))
     (subst (λ steps. GoesThrough (replay_of c.loop-index.self) steps (windowed_view c.go_through.new.self))
     c.from_ref.ensures.value c.in_ok-go_through.ensures.through)
 
@@ -49,6 +59,6 @@ returns c =
     let before = replay_of c.args.self.now in
     let events = window_view c.args.window.now in
     let at : AreTouching before.cpu events c.in-Some.indices.now =
-    subst (λ cpu. AreTouching cpu events c.in-Some.indices.now) c.cpu-cpu.ensures c.in-Some.ensures in
+    subst (λ cpu. AreTouching cpu events c.in-Some.indices.now) c.cpu-cpu.ensures c.in-Some.ensures.touching in
     all_made before (steps_at before.cpu events) c.loop-index.index-index _ c.loop-index.invariant
     (let n = at.count in let t = c.loop-index-test.false in omega (arith, n, t))

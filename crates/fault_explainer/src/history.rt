@@ -39,8 +39,10 @@ fn waiting_origin(past: &RecentPast, pid: u32, placings: &[Placing]) -> Origin {
 /// The pids of those who wait and are shown.
 fn shown_waiting(alloc: Global, queue: &Runqueue) -> Result<Vec<u32>, AllocError> {
     let mut shown = Vec::new(alloc);
-    for waiting in queue.waiting().iter().take(MOST_WAITING) {
-        shown.push(waiting.pid)?;
+    for index in 0..MOST_WAITING {
+        if let Some(waiting) = queue.waiting().nth(index) {
+            shown.push(waiting.pid)?;
+        }
     }
     Ok(shown)
 }

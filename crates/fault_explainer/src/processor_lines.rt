@@ -61,8 +61,9 @@ fn push_waiting(
     queue: &Runqueue,
     telling: Telling<'_>,
 ) -> Result<(), AllocError> {
-    for waiting in queue.waiting().iter().take(MOST_WAITING) {
-        if let Some(task) = queue.task_at(waiting.pid) {
+    for index in 0..MOST_WAITING {
+        let waiting = queue.waiting().nth(index);
+        if let Some(task) = waiting.and_then(|waiting| queue.task_at(waiting.pid)) {
             push_task(text, task, "waits", telling)?;
         }
     }

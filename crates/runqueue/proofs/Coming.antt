@@ -1,7 +1,6 @@
 -- What one more task makes of the runqueue, and of the part that it stands for.
 use Rattle.std.proofs.Common.{◌≡◌, ◌≢◌, ℕ, true, Option, Some, None, is_some, option_map, ℤ, inl, inr, refl, sym, ap}
 use Rattle.std.proofs.Common.{◌∙◌, subst, Result, Ok, Err, OnErr}
-use Rattle.std.specs.BTreeSet as set
 use Rattle.std.specs.BTreeSet.{BTreeSet}
 use Rattle.std.proofs.lemmas.Bool.{cases_eq}
 use Rattle.std.proofs.lemmas.Option.{same_Some}
@@ -14,6 +13,7 @@ use Rattle.runqueue.specs.Entities.{by_runtime, listed, entities, runtime_if, wa
 use Rattle.runqueue.specs.TaskRows.{TaskRows, Writes}
 use Rattle.runqueue.specs.declared.waiting_task.WaitingTask.{WaitingTask}
 use Rattle.runqueue.specs.Tasks.{entity_of}
+use Rattle.runqueue.specs.WaitingTasks.{Updates}
 use Rattle.runqueue.proofs.Parts.{part_with, its_place, same_tasks, put-at, put-under}
 use Rattle.runqueue.proofs.EntitiesKept.{queue_is, waiting_in, only_in, listed_in, listed_some, listed_kept}
 use Rattle.runqueue.proofs.EntitiesKept.{runner_apart}
@@ -44,7 +44,7 @@ module _ (runner : Option SchedEntity) (m n : TaskRows) (a : BTreeSet WaitingTas
   apart_new : (x : SchedEntity) → runner ≡ Some x → x.pid ≢ t.pid
   apart_new = runner_apart runner m a kept t.pid (λ e. let f : None ≡ Some Run = sym (ap its_place none) ∙ e in cc)
 
-  pub come_waits : (b : BTreeSet WaitingTask) → set.Updates by_runtime a b (waiting_task t.v t.pid) true
+  pub come_waits : (b : BTreeSet WaitingTask) → Updates a b (waiting_task t.v t.pid) true
       → t.place ≡ Wait → IsQueue runner n b
   come_waits b s waits =
       queue_is runner n b

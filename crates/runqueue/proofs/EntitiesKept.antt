@@ -1,7 +1,6 @@
 -- What an entry that is written or taken out makes of who stands, and of those who wait.
 use Rattle.std.proofs.Common.{◌≡◌, ◌≢◌, ◌↔◌, ℕ, Bool, true, false, IsTrue, IsSome, Option, Some, None, option_map, ℤ}
 use Rattle.std.proofs.Common.{pos, ◌≤ℤ◌, ◌<ℤ◌, ◌⊎◌, inl, inr, refl, sym, ap, ◌∙◌, subst, true≢false, arith}
-use Rattle.std.specs.BTreeSet as set
 use Rattle.std.specs.BTreeSet.{BTreeSet, contains}
 use Rattle.std.specs.Ordering.{nat_cmp, int_cmp, is_eq, is_gt, ordering_then, MatchOrdering}
 use Rattle.std.specs.declared.cmp.Ordering.{Ordering}
@@ -22,6 +21,7 @@ use Rattle.runqueue.specs.Entities.{IsOnlyRunner, IsRunnerListed, IsQueue, waiti
 use Rattle.runqueue.specs.TaskRows.{TaskRows, Writes, task_in}
 use Rattle.runqueue.specs.declared.waiting_task.WaitingTask.{WaitingTask}
 use Rattle.runqueue.specs.Tasks.{entity_of}
+use Rattle.runqueue.specs.WaitingTasks.{Updates}
 use Rattle.cfs_model.proofs.Moves.{put-same, put-other}
 use Rattle.runqueue.proofs.Parts.{its_place, put-at, put-under}
 
@@ -36,7 +36,7 @@ exact_runtimes x y e =
     ap (λ p. waiting_task p.0 p.1) (exact_pairs int_cmp nat_cmp exact_signed exact_unsigned (x.v, x.pid) (y.v, y.pid)
     (from_is_eq (by_runtime x y) e))
 
-other_pair : (x y : WaitingTask) → x ≢ y → is_eq (by_runtime x y) ≡ false
+pub other_pair : (x y : WaitingTask) → x ≢ y → is_eq (by_runtime x y) ≡ false
 other_pair x y ne =
     elim (cases_Bool (is_eq (by_runtime x y))) [ inl yes' ↦ absurd (ne (exact_runtimes x y yes')) | inr no' ↦ no' ]
 
@@ -250,7 +250,7 @@ module _ (f g : ℕ → Option Entity) (pid : ℕ) (s : Option Entity) (is : (q 
       ((λ x. ap waiting_runtime h ∙ i.0 (sym e ∙ x)), (λ x. e ∙ i.1 (sym (ap waiting_runtime h) ∙ x)))
 
   by_pid : (a b : BTreeSet WaitingTask) (v : ℤ) (kept : Bool) → IsWaitingSet f a
-      → set.Updates by_runtime a b (waiting_task v pid) kept
+      → Updates a b (waiting_task v pid) kept
       → ((w : ℤ) → IsTrue (contains by_runtime b (waiting_task w pid)) ↔ (waiting_runtime (g pid) ≡ Some w))
       → IsWaitingSet g b
   unfolding IsWaitingSet
@@ -259,13 +259,13 @@ module _ (f g : ℕ → Option Entity) (pid : ℕ) (s : Option Entity) (is : (q 
         | inl same ↦ subst (λ x. IsTrue (contains by_runtime b (waiting_task w x))
             ↔ (waiting_runtime (g x) ≡ Some w)) (sym same) (at w)
         | inr other ↦ same_pair a b w q
-            (u.2 (waiting_task w q) (other_pair (waiting_task v pid) (waiting_task w q)
+            (u.there (waiting_task w q) (other_pair (waiting_task v pid) (waiting_task w q)
             (λ e. other (sym (ap (λ x. x.pid) e))))) (there q other) (old w q)
       ]
 
   -- it waits, and didn't before
   pub joins : (a b : BTreeSet WaitingTask) (v : ℤ) → IsWaitingSet f a
-      → set.Updates by_runtime a b (waiting_task v pid) true
+      → Updates a b (waiting_task v pid) true
       → waiting_runtime (f pid) ≡ None → waiting_runtime s ≡ Some v → IsWaitingSet g b
   joins a b v old u none new = by_pid a b v true old u (λ w. (forth w, back w))
     where
@@ -273,7 +273,7 @@ module _ (f g : ℕ → Option Entity) (pid : ℕ) (s : Option Entity) (is : (q 
       is_v = ap waiting_runtime here ∙ new
 
       back : (w : ℤ) → waiting_runtime (g pid) ≡ Some w → IsTrue (contains by_runtime b (waiting_task w pid))
-      back w e = subst (λ x. IsTrue (contains by_runtime b (waiting_task x pid))) (same_Some v w (sym is_v ∙ e)) u.1
+      back w e = subst (λ x. IsTrue (contains by_runtime b (waiting_task x pid))) (same_Some v w (sym is_v ∙ e)) u.here
 
       forth : (w : ℤ) → IsTrue (contains by_runtime b (waiting_task w pid)) → waiting_runtime (g pid) ≡ Some w
       forth w h =
@@ -281,12 +281,12 @@ module _ (f g : ℕ → Option Entity) (pid : ℕ) (s : Option Entity) (is : (q 
             | inl same ↦ is_v ∙ ap (λ x. Some x.v) (exact_runtimes (waiting_task v pid) (waiting_task w pid) same)
             | inr other ↦
                 let e : None ≡ Some w = sym none
-                ∙ (waits_where f a old w pid).0 (sym (u.2 (waiting_task w pid) other) ∙ h) in absurd cc
+                ∙ (waits_where f a old w pid).0 (sym (u.there (waiting_task w pid) other) ∙ h) in absurd cc
           ]
 
   -- it doesn't wait, and may have before
   pub parts : (a b : BTreeSet WaitingTask) (v : ℤ) → IsWaitingSet f a
-      → set.Updates by_runtime a b (waiting_task v pid) false
+      → Updates a b (waiting_task v pid) false
       → ((w : ℤ) → waiting_runtime (f pid) ≡ Some w → w ≡ v) → waiting_runtime s ≡ None → IsWaitingSet g b
   parts a b v old u own none = by_pid a b v false old u (λ w. (forth w, back w))
     where
@@ -294,7 +294,7 @@ module _ (f g : ℕ → Option Entity) (pid : ℕ) (s : Option Entity) (is : (q 
       back w e = let f : None ≡ Some w = sym none ∙ sym (ap waiting_runtime here) ∙ e in absurd cc
 
       not_v : (w : ℤ) → w ≡ v → IsTrue (contains by_runtime b (waiting_task w pid)) → ⊥
-      not_v w e h = true≢false (sym h ∙ ap (λ x. contains by_runtime b (waiting_task x pid)) e ∙ u.1)
+      not_v w e h = true≢false (sym h ∙ ap (λ x. contains by_runtime b (waiting_task x pid)) e ∙ u.here)
 
       forth : (w : ℤ) → IsTrue (contains by_runtime b (waiting_task w pid)) → waiting_runtime (g pid) ≡ Some w
       forth w h =
@@ -302,7 +302,7 @@ module _ (f g : ℕ → Option Entity) (pid : ℕ) (s : Option Entity) (is : (q 
             | inl same ↦ absurd (not_v w
                 (sym (ap (λ x. x.v) (exact_runtimes (waiting_task v pid) (waiting_task w pid) same))) h)
             | inr other ↦ absurd (not_v w
-                (own w ((waits_where f a old w pid).0 (sym (u.2 (waiting_task w pid) other) ∙ h))) h)
+                (own w ((waits_where f a old w pid).0 (sym (u.there (waiting_task w pid) other) ∙ h))) h)
           ]
 
   -- it waits as before, or doesn't

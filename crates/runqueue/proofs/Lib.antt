@@ -2,6 +2,7 @@ pub mod Charges
 pub mod Parts
 pub mod TaskRows
 pub mod TaskOf
+pub mod WaitingLists
 pub mod EntitiesKept
 pub mod Lifts
 pub mod Moved

@@ -2,7 +2,6 @@
 use Rattle.std.proofs.Common.{◌≡◌, ◌≢◌, ℕ, zero, suc, true, false, IsSome, Option, Some, None, option_map, ℤ, pos}
 use Rattle.std.proofs.Common.{inl, inr, refl, sym, ap, ◌∙◌, subst}
 use Rattle.std.specs.BTreeMap.{is_at}
-use Rattle.std.specs.BTreeSet as set
 use Rattle.std.specs.BTreeSet.{BTreeSet, contains}
 use Rattle.std.specs.List.{list_any}
 use Rattle.std.proofs.lemmas.Bool.{cases_eq}
@@ -22,6 +21,7 @@ use Rattle.runqueue.specs.Entities.{by_runtime, listed, entities, runtime_if, wa
 use Rattle.runqueue.specs.TaskRows.{TaskRows, Writes, task_in}
 use Rattle.runqueue.specs.declared.waiting_task.WaitingTask.{WaitingTask}
 use Rattle.runqueue.specs.Tasks.{entity_of}
+use Rattle.runqueue.specs.WaitingTasks.{Updates}
 use Rattle.cfs_model.proofs.Moves.{put-other}
 use Rattle.runqueue.proofs.Parts.{part_with, its_place, same_tasks, put-at, written_over}
 use Rattle.runqueue.proofs.EntitiesKept.{queue_is, waiting_in, only_in, listed_in, listed_none, listed_some}
@@ -72,7 +72,7 @@ module _ (m n : TaskRows) (a : BTreeSet WaitingTask) (t : SchedEntity) (kept : I
   runner_unwaited = ap waiting_runtime ran.0 ∙ ap (λ p. runtime_if p t.v) ran.1
 
   -- who ran waits
-  pub back_queue : (b : BTreeSet WaitingTask) → set.Updates by_runtime a b (waiting_task t.v t.pid) true
+  pub back_queue : (b : BTreeSet WaitingTask) → Updates a b (waiting_task t.v t.pid) true
       → option_map entity_of w ≡ Some (record {
         place = Wait;
         nice = t.nice;
@@ -176,7 +176,7 @@ nobody_leaves runner m a kept e floor mark way prev =
 -- the next task runs
 pub next_queue : (m : TaskRows) (a b : BTreeSet WaitingTask) (t new : SchedEntity) → IsQueue None m a
     → listed m new.pid ≡ Some (entity_of t)
-    → set.Updates by_runtime a b (waiting_task t.v new.pid) false → new.place ≡ Run → IsQueue (Some new) m b
+    → Updates a b (waiting_task t.v new.pid) false → new.place ≡ Run → IsQueue (Some new) m b
 next_queue m a b t new kept has s runs =
     let own : (v : ℤ) → waiting_runtime (listed m new.pid) ≡ Some v → v ≡ t.v = λ v e.
     runtime_own t.place t.v v (sym (ap waiting_runtime has) ∙ e) in
@@ -218,7 +218,7 @@ module _ (runner : Option SchedEntity) (m n : TaskRows) (a : BTreeSet WaitingTas
   apart = runner_apart runner m a kept pid at_rest
 
   pub gone_queue : (b : BTreeSet WaitingTask) (t : SchedEntity) → task_in m pid ≡ Some t
-      → set.Updates by_runtime a b (waiting_task t.v pid) false → IsQueue runner n b
+      → Updates a b (waiting_task t.v pid) false → IsQueue runner n b
   gone_queue b t has s =
       let own : (v : ℤ) → waiting_runtime (entities runner m pid) ≡ Some v → v ≡ t.v = λ v e.
       runtime_own t.place t.v v
@@ -274,7 +274,7 @@ module _ (runner : Option SchedEntity) (m n : TaskRows) (a : BTreeSet WaitingTas
 
   module _ (w : SchedEntity) (u : Writes m n pid (Some w)) (v : ℤ)
       (is : entity_of w ≡ record { place = Wait; nice = t.nice; policy = t.policy; runtime = v; drift = t.drift }) where
-    pub woken_queue : (b : BTreeSet WaitingTask) → set.Updates by_runtime a b (waiting_task v pid) true
+    pub woken_queue : (b : BTreeSet WaitingTask) → Updates a b (waiting_task v pid) true
         → IsQueue runner n b
     woken_queue b s =
         queue_is runner n b

@@ -1,4 +1,5 @@
 pub mod Tasks
 pub mod TaskRows
 pub mod Entities
+pub mod WaitingTasks
 pub mod Queue

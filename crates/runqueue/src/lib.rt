@@ -11,9 +11,11 @@ mod runqueue;
 mod sched_entity;
 mod task_rows;
 mod waiting_task;
+mod waiting_tasks;
 
 pub use charging::{ChargeFault, charged, told};
 pub use lift::Unlifted;
 pub use runqueue::Runqueue;
 pub use sched_entity::SchedEntity;
 pub use waiting_task::WaitingTask;
+pub use waiting_tasks::WaitingTasks;

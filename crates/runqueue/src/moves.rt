@@ -15,11 +15,11 @@ use crate::recent_rows::RecentRows;
 use crate::runqueue::Runqueue;
 use crate::sched_entity::SchedEntity;
 use crate::task_rows::{put, take_out, write_over, write_row};
-use crate::waiting_task::{WaitingTask, take_waiting};
+use crate::waiting_task::WaitingTask;
+use crate::waiting_tasks::WaitingTasks;
 use cfs_model::{Claim, IDLE_PID, Memory, Place, Task, Way};
 use pid_table::{PidHasher, PidTable};
 use std::alloc::Global;
-use std::collections::BTreeSet;
 
 impl Runqueue {
     /// Nobody. Pids are hashed by these keys.
@@ -32,7 +32,7 @@ impl Runqueue {
             runner_row: 0,
             tasks: PidTable::new(alloc, hasher),
             recent: RecentRows::none(),
-            waiting: BTreeSet::new(alloc),
+            waiting: WaitingTasks::new(alloc),
             floor,
             mark,
         }
@@ -153,7 +153,7 @@ impl Runqueue {
                 v: task.v,
                 pid: next,
             };
-            take_waiting(&mut self.waiting, waited);
+            self.waiting.remove(waited);
             let mut runner = task;
             runner.pid = next;
             runner.place = Place::Run;
@@ -171,7 +171,7 @@ impl Runqueue {
     {
         let expected = self.row_of(pid);
         if let Some(task) = take_out(&mut self.tasks, expected, pid) {
-            self.waiting.remove(&WaitingTask { v: task.v, pid });
+            self.waiting.remove(WaitingTask { v: task.v, pid });
         }
     }
 

@@ -10,9 +10,8 @@ ghost use Rattle.runqueue.specs.TaskRows.{IsRunnerRow};
 use crate::runqueue::Runqueue;
 use crate::sched_entity::SchedEntity;
 use crate::task_rows::listed;
-use crate::waiting_task::WaitingTask;
+use crate::waiting_tasks::WaitingTasks;
 use cfs_model::{IDLE_PID, Way};
-use std::collections::BTreeSet;
 
 impl Runqueue {
     /// Who runs, if somebody does.
@@ -39,8 +38,8 @@ impl Runqueue {
         self.tasks.pids()
     }
 
-    /// Those who wait, in their order.
-    pub fn waiting(&self) -> &BTreeSet<WaitingTask>
+    /// Those who wait.
+    pub fn waiting(&self) -> &WaitingTasks
         ensures { IsWaitingSet (runqueue_view self.now).tasks result.now }
     {
         &self.waiting

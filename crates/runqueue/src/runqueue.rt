@@ -4,8 +4,7 @@ ghost use Rattle.runqueue.specs.TaskRows.{IsRunnerRow, IsRunnerRow-prop};
 use crate::recent_rows::RecentRows;
 use crate::sched_entity::SchedEntity;
 use crate::task_rows::TaskRows;
-use crate::waiting_task::WaitingTask;
-use std::collections::BTreeSet;
+use crate::waiting_tasks::WaitingTasks;
 
 /// Those who stand at the processor, and what the processor keeps.
 #[derive(Drop)]
@@ -18,8 +17,8 @@ pub struct Runqueue {
     pub(crate) tasks: TaskRows,
     /// Where the rows of those who came or ran last are.
     pub(crate) recent: RecentRows,
-    /// Those who wait, in their order.
-    pub(crate) waiting: BTreeSet<WaitingTask>,
+    /// Those who wait.
+    pub(crate) waiting: WaitingTasks,
     /// In virtual nanoseconds.
     pub(crate) floor: i64,
     /// The time of the last charge, in nanoseconds.

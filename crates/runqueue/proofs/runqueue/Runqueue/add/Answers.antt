@@ -1,11 +1,11 @@
 use Rattle.std.proofs.Common.{◌≡◌, ℤ, Some, true, refl, subst, ap, ◌∙◌, rules, to_z, of_z, w64}
-use Rattle.std.specs.BTreeSet as set
 use Rattle.runqueue.specs.Entities.{by_runtime, waiting_task}
 use Rattle.runqueue.specs.TaskRows.{KeepsRows, with_pid}
 use Rattle.runqueue.proofs.EntitiesKept.{no_runner, same_queue}
 use Rattle.runqueue.proofs.Moved.{same_waiting_keys}
 use Rattle.runqueue.proofs.Coming.{come_runs_alone, run_part_alone, come_rests, come_waits, come_part, on_err}
 use Rattle.runqueue.specs.Queue.{HoldsSame}
+use Rattle.runqueue.specs.WaitingTasks.{Updates}
 use Rattle.runqueue.proofs.TaskRows.{keeps_same, runner_row_at, runner_row_kept, task_same, writes_from}
 use Rattle.runqueue.proofs.runqueue.Runqueue.add.Goals as goal
 
@@ -91,7 +91,7 @@ invariant_of-self-in-Wait c =
       kept = come_waits q.runner q.tasks n q.waiting q.kept t c.requires.apart
           (writes_from q.tasks c.make_room.new.self n t.pid (Some t) e.pids e.rows c.put-row.ensures.written)
           c.insert.new.self
-          (subst (λ (v : ℤ). set.Updates by_runtime q.waiting c.insert.new.self (waiting_task v t.pid) true)
+          (subst (λ (v : ℤ). Updates q.waiting c.insert.new.self (waiting_task v t.pid) true)
           whole c.in_ok-insert-in-Wait.ensures.updates) c.in-Wait.is;
       in_row = runner_row_kept q.runner q.tasks.pids n.pids q.runner_row q.in_row
           (subst (λ pids. KeepsRows pids n.pids) e.pids c.put-row.ensures.kept);

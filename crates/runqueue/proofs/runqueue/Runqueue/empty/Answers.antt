@@ -10,7 +10,7 @@ use Rattle.runqueue.proofs.runqueue.Runqueue.empty.Goals as goal
 
 pub invariant_of-result : goal.invariant_of-result
 invariant_of-result c = record {
-  kept = empty_queue c.new.result c.new-2.result c.new.ensures.pids c.new-2.ensures.empty;
+  kept = empty_queue c.new.result c.new-2.result c.new.ensures.pids c.new-2.ensures;
   in_row = runner_row_none None c.new.result.pids 0 refl;
 }
 

@@ -1,7 +1,7 @@
 use Rattle.std.proofs.Common.{◌≡◌, ℤ, true, subst, refl, rules, Some, to_z, of_z, w64, None}
-use Rattle.std.specs.BTreeSet as set
 use Rattle.cfs_model.specs.declared.act.Way.TheVariants.{Stays}
 use Rattle.runqueue.specs.Entities.{by_runtime, waiting_task}
+use Rattle.runqueue.specs.WaitingTasks.{Updates}
 use Rattle.runqueue.proofs.Moved.{kept_runner, back_queue, runner_leaves}
 use Rattle.runqueue.proofs.EntitiesKept.{nobody_runs}
 use Rattle.runqueue.proofs.TaskRows.{runner_row_is, runner_row_none}
@@ -23,7 +23,7 @@ invariant_of-self-2 c =
     record {
       kept = back_queue q.tasks c.write_row.new.tasks q.waiting t
           (kept_runner q.runner q.tasks q.waiting (Some t) q.kept c.requires) _ written
-          c.insert.new.self (subst (λ (v : ℤ). set.Updates by_runtime q.waiting c.insert.new.self
+          c.insert.new.self (subst (λ (v : ℤ). Updates q.waiting c.insert.new.self
           (waiting_task v t.pid) true) whole c.in_ok-insert.ensures.updates) refl;
       in_row = runner_row_none None c.write_row.new.tasks.pids q.runner_row refl;
     }
@@ -46,6 +46,6 @@ returns-clause-nobody c =
     nobody_runs None c.write_row.new.tasks c.insert.new.self q.floor q.mark
     (back_queue q.tasks c.write_row.new.tasks q.waiting t
     (kept_runner q.runner q.tasks q.waiting (Some t) q.kept c.requires) _ written
-    c.insert.new.self (subst (λ (v : ℤ). set.Updates by_runtime q.waiting c.insert.new.self (waiting_task v t.pid) true)
+    c.insert.new.self (subst (λ (v : ℤ). Updates q.waiting c.insert.new.self (waiting_task v t.pid) true)
     whole c.in_ok-insert.ensures.updates) refl)
     refl

@@ -1,6 +1,6 @@
 use Rattle.std.proofs.Common.{◌≡◌, ℤ, false, subst, sym, ◌∙◌, rules, to_z, of_z, w64}
-use Rattle.std.specs.BTreeSet as set
 use Rattle.runqueue.specs.Entities.{by_runtime, waiting_task}
+use Rattle.runqueue.specs.WaitingTasks.{Updates}
 use Rattle.runqueue.proofs.Moved.{gone_queue, nowhere_queue, gone_entities}
 use Rattle.runqueue.proofs.TaskRows.{keeps_same, runner_row_kept}
 use Rattle.runqueue.proofs.runqueue.Runqueue.remove.Goals as goal
@@ -14,7 +14,7 @@ invariant_of-self c =
       kept = gone_queue q.runner q.tasks c.take_out.new.tasks q.waiting q.kept c.args.pid c.requires
           c.take_out.ensures.gone c.remove.new.self t
           (sym c.take_out.ensures.value ∙ c.in-Some.is)
-          (subst (λ (v : ℤ). set.Updates by_runtime q.waiting c.remove.new.self
+          (subst (λ (v : ℤ). Updates q.waiting c.remove.new.self
           (waiting_task v c.args.pid) false) whole c.remove.ensures.updates);
       in_row = runner_row_kept q.runner q.tasks.pids c.take_out.new.tasks.pids q.runner_row q.in_row
           (keeps_same q.tasks.pids c.take_out.new.tasks.pids c.take_out.ensures.pids);

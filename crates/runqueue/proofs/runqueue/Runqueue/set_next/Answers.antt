@@ -1,12 +1,12 @@
 use Rattle.std.proofs.Common.{◌≡◌, ℤ, false, sym, ap, ◌∙◌, subst, refl, rules, Some, None, Option, option_map, to_z}
 use Rattle.std.proofs.Common.{of_z, w64}
-use Rattle.std.specs.BTreeSet as set
 use Rattle.cfs_model.specs.declared.task.Place.TheVariants.{Run}
 use Rattle.runqueue.specs.declared.sched_entity.SchedEntity.{SchedEntity}
 use Rattle.replay_model.specs.AfterDeed.{part_after_next}
 use Rattle.replay_model.specs.Part.{Part}
 use Rattle.runqueue.specs.Entities.{by_runtime, entities, waiting_task}
 use Rattle.runqueue.specs.Tasks.{entity_of}
+use Rattle.runqueue.specs.WaitingTasks.{Updates}
 use Rattle.runqueue.proofs.TaskRows.{has_row, runner_row_at}
 use Rattle.runqueue.proofs.Moved.{kept_runner, listed_has, next_entities, next_queue, no_next}
 use Rattle.runqueue.proofs.EntitiesKept.{no_runner}
@@ -33,10 +33,10 @@ invariant_of-self c =
     sym (ap (option_map entity_of) c.in-Some.is) ∙ c.requires.task c.if-next-eq-IDLE_PID.false
     ∙ ap (λ (r : Option SchedEntity). entities r q.tasks c.args.next) none in
     record {
-      kept = next_queue q.tasks q.waiting c.take_waiting.new.waiting t _
+      kept = next_queue q.tasks q.waiting c.remove.new.self t _
           (kept_runner q.runner q.tasks q.waiting None q.kept none) (sym has)
-          (subst (λ (v : ℤ). set.Updates by_runtime q.waiting c.take_waiting.new.waiting
-          (waiting_task v c.args.next) false) whole c.take_waiting.ensures.updates) refl;
+          (subst (λ (v : ℤ). Updates q.waiting c.remove.new.self
+          (waiting_task v c.args.next) false) whole c.remove.ensures.updates) refl;
       in_row = runner_row_at _ q.tasks.pids c.in-Some-index_near.row
           (sym c.index_near.ensures.index ∙ c.in-Some-index_near.is);
     }

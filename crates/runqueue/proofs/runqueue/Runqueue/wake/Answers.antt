@@ -1,9 +1,9 @@
 use Rattle.std.proofs.Common.{◌≡◌, ℤ, true, refl, subst, sym, ap, ◌∙◌, rules, Some, option_map, to_z, of_z, w64}
-use Rattle.std.specs.BTreeSet as set
 use Rattle.cfs_model.specs.declared.task.Place.TheVariants.{Wait}
 use Rattle.runqueue.specs.Queue.{runqueue_view}
 use Rattle.runqueue.specs.Entities.{by_runtime, entities, waiting_task}
 use Rattle.runqueue.specs.Tasks.{entity_of}
+use Rattle.runqueue.specs.WaitingTasks.{Updates}
 use Rattle.runqueue.proofs.Moved.{nobody_woken, not_woken, wake_has, woken_queue, woken_part}
 use Rattle.runqueue.proofs.TaskRows.{keeps_same, runner_row_kept}
 use Rattle.runqueue.proofs.runqueue.Runqueue.wake.Goals as goal
@@ -47,7 +47,7 @@ invariant_of-self-in-Rest c =
           (ap (λ (x : ℤ). record { place = Wait; nice = t.nice; policy = t.policy; runtime = x; drift = t.drift })
           whole)
           c.insert.new.self
-          (subst (λ (x : ℤ). set.Updates by_runtime q.waiting c.insert.new.self (waiting_task x c.args.pid) true) whole
+          (subst (λ (x : ℤ). Updates q.waiting c.insert.new.self (waiting_task x c.args.pid) true) whole
           c.in_ok-insert-in-Rest.ensures.updates);
       in_row = runner_row_kept q.runner q.tasks.pids c.write_over.new.tasks.pids q.runner_row q.in_row
           (keeps_same q.tasks.pids c.write_over.new.tasks.pids c.write_over.ensures.pids);

@@ -45,7 +45,13 @@ returns c here stands =
     let usual : Option Claim → Saying =
     λ claim. record { claim = claim; nice = None; charge = None; policy = Normal } in
     let with_claim : Option Claim → Step =
-    λ claim. step_at c.args.cpu (record { entry = event; claim = claim; nice = None; charge = None; policy = Normal }) in
+    λ claim. step_at c.args.cpu (record {
+      entry = event;
+      claim = claim;
+      nice = None;
+      charge = None;
+      policy = Normal;
+    }) in
     elim c.match-said_at.branch [
       | in-Nothing w ↦
           c.write_usual.ensures ∙ ap (λ (step : Step). with_claim step.claim) w.step-is

@@ -1,0 +1,186 @@
+ghost use Rattle.std.specs.Prelude.{◌≡◌, ◌+◌, ◌<◌, ◌≤◌, true, false, length, IfOk, OnOk, OnErr};
+ghost use Rattle.std.specs.BTreeSet.{contains};
+ghost use Rattle.std.specs.List.{prefix_len};
+ghost use Rattle.std.specs.Ordering.{is_gt};
+ghost use Rattle.runqueue.specs.Entities.{by_runtime};
+ghost use Rattle.runqueue.specs.WaitingTasks.{falls, set_of, Updates};
+ghost use Rattle.runqueue.specs.declared.waiting_task.WaitingTask.{WaitingTask as Waiting};
+
+use crate::waiting_task::WaitingTask;
+use cfs_model::Memory;
+use std::alloc::Global;
+use std::collections::BTreeSet;
+use std::marker::Model;
+
+/// How many stand in the list at most.
+const MOST_LISTED: usize = 32;
+
+/// Those who wait at a processor, by virtual runtime, and of equal ones by pid. A few stand in a list, the least last,
+/// where one comes and goes by less work than in a tree. When they become more, all go to the tree, until that is
+/// empty: no walk is long, however many wait.
+#[derive(Drop)]
+pub struct WaitingTasks {
+    list: Vec<WaitingTask>,
+    tree: BTreeSet<WaitingTask>,
+    ghost apart: { 0 < length tree.keys → length list.items ≡ 0 },
+    ghost in_order: { falls list.items ≡ true },
+}
+
+impl Model for WaitingTasks {
+    ghost use Rattle.std.specs.Prelude.{◌++◌};
+    ghost use Rattle.std.specs.BTreeSet.{BTreeSet};
+    ghost use Rattle.runqueue.specs.WaitingTasks.{set_of};
+    ghost use Rattle.runqueue.specs.declared.waiting_task.WaitingTask.{WaitingTask};
+
+    ghost Value = { BTreeSet WaitingTask };
+
+    ghost view = { λ waiting. set_of (waiting.list.items ++ waiting.tree.keys) };
+}
+
+impl WaitingTasks {
+    ghost use Rattle.std.specs.Prelude.{[], ◌↔◌, IfSome, IsSome, IsTrue};
+    ghost use Rattle.std.specs.BTreeSet.{IsLowerBound, btree_set_len};
+
+    /// Nobody. Takes no memory.
+    pub(crate) fn new(alloc: Global) -> WaitingTasks
+        ensures { result.keys ≡ [] }
+    {
+        WaitingTasks {
+            list: Vec::new(alloc),
+            tree: BTreeSet::new(alloc),
+        }
+    }
+
+    /// One more waits.
+    #[inline(always)]
+    pub(crate) fn insert(&mut self, task: WaitingTask) -> Result<(), Memory>
+        ensures updates { OnOk result (Updates self.old self.new task true) }
+        ensures err { OnErr result (self.new.keys ≡ self.old.keys) }
+    {
+        if self.tree.is_empty() && self.list.len() < MOST_LISTED {
+            insert_listed(&mut self.list, task)
+        } else {
+            self.insert_in_tree(task)
+        }
+    }
+
+    /// The same, where it goes to the tree, and all others with it.
+    #[inline(never)]
+    fn insert_in_tree(&mut self, task: WaitingTask) -> Result<(), Memory>
+        ensures updates { OnOk result (Updates self.old self.new task true) }
+        ensures err { OnErr result (self.new.keys ≡ self.old.keys) }
+    {
+        if !self.tree.is_empty() {
+            self.tree.insert(task)?;
+            return Ok(());
+        }
+        let mut tree = tree_of(*self.list.allocator(), &self.list)?;
+        tree.insert(task)?;
+        self.list.clear();
+        self.tree = tree;
+        Ok(())
+    }
+
+    /// One waits no more.
+    #[inline(always)]
+    pub(crate) fn remove(&mut self, task: WaitingTask)
+        ensures updates { Updates self.old self.new task false }
+    {
+        if self.tree.is_empty() {
+            remove_listed(&mut self.list, task);
+        } else {
+            self.tree.remove(&task);
+        }
+    }
+
+    /// The least.
+    #[inline(always)]
+    pub fn first(&self) -> Option<&WaitingTask>
+        ensures variant { IsSome result ↔ (0 < btree_set_len self.now) }
+        ensures member { IfSome result (λ task. IsTrue (contains by_runtime self.now task.now)) }
+        ensures least { IfSome result (λ task. IsLowerBound by_runtime self.now task.now) }
+    {
+        let count = self.list.len();
+        if count > 0 {
+            Some(&self.list[count - 1])
+        } else {
+            self.tree.first()
+        }
+    }
+
+    /// How many wait.
+    pub fn len(&self) -> usize
+        ensures { result ≡ btree_set_len self.now }
+    {
+        if self.tree.is_empty() {
+            self.list.len()
+        } else {
+            self.tree.len()
+        }
+    }
+
+    /// The one at an index, in their order.
+    pub fn nth(&self, index: usize) -> Option<WaitingTask> {
+        if self.tree.is_empty() {
+            let place = self.list.len().checked_sub(index)?.checked_sub(1)?;
+            self.list.get(place).copied()
+        } else {
+            self.tree.iter().nth(index).copied()
+        }
+    }
+}
+
+/// Puts one into a list, unless it is there.
+#[inline(always)]
+fn insert_listed(list: &mut Vec<WaitingTask>, task: WaitingTask) -> Result<(), Memory>
+    requires { falls list.old.items ≡ true }
+    ensures falls { falls list.new.items ≡ true }
+    ensures updates { OnOk result (Updates (set_of list.old.items) (set_of list.new.items) task true) }
+    ensures err { OnErr result (list.new.items ≡ list.old.items) }
+{
+    let place = place_in(list, task);
+    if place < list.len() && list[place] == task {
+        return Ok(());
+    }
+    list.insert(place, task)?;
+    Ok(())
+}
+
+/// Takes one out of a list. Mostly it is the least.
+#[inline(always)]
+fn remove_listed(list: &mut Vec<WaitingTask>, task: WaitingTask)
+    requires { falls list.old.items ≡ true }
+    ensures falls { falls list.new.items ≡ true }
+    ensures updates { Updates (set_of list.old.items) (set_of list.new.items) task false }
+{
+    let count = list.len();
+    if count > 0 && list[count - 1] == task {
+        list.remove(count - 1);
+        return;
+    }
+    let place = place_in(list, task);
+    if place < count && list[place] == task {
+        list.remove(place);
+    }
+}
+
+/// How many of a list stand above a task.
+#[inline(always)]
+#[tactic(auto, using(crate::proofs::WaitingLists::place_within))]
+fn place_in(list: &[WaitingTask], task: WaitingTask) -> usize
+    ensures { result ≡ prefix_len (λ other. is_gt (by_runtime other task)) list.now }
+{
+    list.iter().take_while(|other| **other > task).count()
+}
+
+/// A tree of those in a list.
+fn tree_of(alloc: Global, list: &[WaitingTask]) -> Result<BTreeSet<WaitingTask>, Memory>
+    ensures { IfOk result (λ tree. (task : Waiting) → contains by_runtime tree task
+        ≡ contains by_runtime (set_of list.now) task) }
+{
+    let mut tree = BTreeSet::new(alloc);
+    for task in list {
+        tree.insert(*task)?;
+    }
+    Ok(tree)
+}

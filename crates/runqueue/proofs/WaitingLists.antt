@@ -12,7 +12,8 @@ use Rattle.std.specs.declared.cmp.Ordering.TheVariants.{Less, Equal, Greater}
 use Rattle.std.proofs.lemmas.Bool.{and_from, and_parts, cases_Bool, eq-eqb, eqb-true}
 use Rattle.std.proofs.lemmas.Cmp.{int_ranked, ranked}
 use Rattle.std.proofs.lemmas.Int.{ints}
-use Rattle.std.proofs.lemmas.List.{take-append-drop}
+use Rattle.std.proofs.Math.ListN.{drop_of_length-le}
+use Rattle.std.proofs.lemmas.List.{append-nil}
 use Rattle.std.proofs.lemmas.List.Folds.{list_any-append}
 use Rattle.std.proofs.lemmas.List.Sums.{prefix_len-le-length}
 use Rattle.runqueue.specs.Entities.{by_runtime}
@@ -316,6 +317,13 @@ above_at x (suc i) (y ∷ tasks) d all lt =
     above_at x i tasks d
     ((and_parts (is_gt (by_runtime x y)) (list_all (λ other. is_gt (by_runtime x other)) tasks) all).1)
     (omega (arith, lt))
+
+-- to take out the last is to take it off
+pub last_removed : (tasks : List WaitingTask) → 0 < length tasks
+    → remove tasks (length tasks - 1) ≡ take (length tasks - 1) tasks
+last_removed tasks some =
+    ap (λ rest. take (length tasks - 1) tasks ++ rest) (drop_of_length-le tasks {i = suc (length tasks - 1)} (omega (arith, some)))
+    ∙ append-nil (take (length tasks - 1) tasks)
 
 module _ (task : WaitingTask) where
   -- one that is taken out isn't there any more, and the others are

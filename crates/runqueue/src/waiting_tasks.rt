@@ -155,7 +155,7 @@ fn remove_listed(list: &mut Vec<WaitingTask>, task: WaitingTask)
 {
     let count = list.len();
     if count > 0 && list[count - 1] == task {
-        list.remove(count - 1);
+        let _least = list.pop();
         return;
     }
     let place = place_in(list, task);

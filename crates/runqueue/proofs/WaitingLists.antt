@@ -322,7 +322,8 @@ above_at x (suc i) (y ∷ tasks) d all lt =
 pub last_removed : (tasks : List WaitingTask) → 0 < length tasks
     → remove tasks (length tasks - 1) ≡ take (length tasks - 1) tasks
 last_removed tasks some =
-    ap (λ rest. take (length tasks - 1) tasks ++ rest) (drop_of_length-le tasks {i = suc (length tasks - 1)} (omega (arith, some)))
+    ap (λ rest. take (length tasks - 1) tasks ++ rest)
+    (drop_of_length-le tasks {i = suc (length tasks - 1)} (omega (arith, some)))
     ∙ append-nil (take (length tasks - 1) tasks)
 
 module _ (task : WaitingTask) where

@@ -15,7 +15,7 @@ ghost use Rattle.sched_event.specs.Usual.{HasField, HasMiddlePrio, is_plain};
 use crate::fields::{NAME_MAX, PrioFields, digits};
 use crate::numeral::Numeral;
 use std::simd::prelude::*;
-use text_parts::numerals::doubled;
+use text_parts::numerals::{doubled, is_digit_byte};
 use text_parts::packed::{TOGETHER, first_set};
 use text_parts::pieces::{after_front, begins_with};
 
@@ -67,18 +67,18 @@ fn prio_numeral<'a>(text: &'a [u8], key: &[u8]) -> Option<(Numeral<'a>, &'a [u8]
     }
 }
 
-/// The digits of the prio that most tasks have, that of nice 0, and what follows them: one comparison tells them.
+/// The digits of the prio that most tasks have, that of nice 0, and what follows them.
 #[inline(always)]
 fn middle_prio<'a>(text: &'a [u8]) -> Option<(Numeral<'a>, &'a [u8])>
     ensures { IfSome result (λ x. run_at is_digit text.now ≡ Some (numeral_pair x)) }
 {
-    if begins_with(text, b"120 ") {
-        return Some(after_middle_prio(text));
+    let [b'1', b'2', b'0', end, ..] = text else {
+        return None;
+    };
+    if is_digit_byte(*end) {
+        return None;
     }
-    if begins_with(text, b"120\n") {
-        return Some(after_middle_prio(text));
-    }
-    None
+    Some(after_middle_prio(text))
 }
 
 /// The digits of this prio where they stand in front, and what follows them.
@@ -102,7 +102,27 @@ fn name_length(text: &[u8], next: &[u8]) -> Option<usize>
     if text.len() <= NAME_MAX {
         return None;
     }
-    let mut index = usize::from(first_gap(text));
+    let index = usize::from(first_gap(text));
+    if index > NAME_MAX {
+        return None;
+    }
+    if begins_with(&text[index..], next) {
+        return Some(index);
+    }
+    spaced_length(text, index, next)
+}
+
+/// The same for a name with spaces, the first of which stands at this index, away from the readers of other names.
+#[inline(never)]
+fn spaced_length(text: &[u8], first: usize, next: &[u8]) -> Option<usize>
+    requires long { 15 < length text.now }
+    requires first { first ≤ 15 }
+    requires unbroken { IsUnbroken (take first text.now) }
+    ensures short { IfSome result (λ index. index ≤ 15) }
+    ensures within { IfSome result (λ index. index ≤ length text.now) }
+    ensures unbroken { IfSome result (λ index. IsUnbroken (take index text.now)) }
+{
+    let mut index = first;
     while index <= NAME_MAX {
         if begins_with(&text[index..], next) {
             return Some(index);

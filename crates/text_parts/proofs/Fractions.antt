@@ -1,11 +1,11 @@
 -- A time is its whole seconds and then a fraction; and a fraction of six digits.
-use Rattle.std.proofs.Common.{◌≡◌, ℕ, ◌+◌, ◌*◌, ◌<◌, ◌≤◌, get_or, true, List, [], ◌∷◌, ◌++◌, length, drop}
+use Rattle.std.proofs.Common.{◌≡◌, ℕ, ◌*◌, ◌^◌, ◌<◌, ◌≤◌, List, length, take, drop}
 use Rattle.std.proofs.Common.{min, Option, Some, None, refl, sym, ap, ◌∙◌, arith, codes}
 use Rattle.std.specs.List.{prefix_len}
-use Rattle.std.proofs.lemmas.List.{drop_more}
-use Rattle.text_parts.specs.Numerals.{is_digit, value_of, many, IsNumeral}
+use Rattle.text_parts.specs.Numerals.{is_digit, value_of, many}
 use Rattle.text_parts.specs.Reading.{◌>>=◌, after_text, front_value, nanoseconds_of, numeral_at, fraction_at, time_at}
-use Rattle.text_parts.proofs.Runs.{digits_in_front, DigitsInFront}
+use Rattle.text_parts.specs.Packed.{BeginsWithDigits}
+use Rattle.text_parts.proofs.LongFronts.{few_below, short_front}
 
 -- whole seconds in front of a fraction
 abbrev pub with_seconds : ℕ → ℕ × List ℕ → Option (ℕ × ℕ × List ℕ)
@@ -55,41 +55,19 @@ pub no_time_without_seconds : (text : List ℕ) → numeral_at text ≡ None →
 unfolding time_at
 no_time_without_seconds text e = rw e refl
 
--- six digits in front of a colon
-pub six_digits : (a b c d e f : ℕ) (rest : List ℕ) → is_digit a ≡ true → is_digit b ≡ true → is_digit c ≡ true
-    → is_digit d ≡ true → is_digit e ≡ true → is_digit f ≡ true → (high low : ℕ) → high ≡ value_of (a ∷ b ∷ c ∷ [])
-    → low ≡ value_of (d ∷ e ∷ f ∷ []) → high < 1000 → low < 1000
-    → fraction_at (46 ∷ a ∷ b ∷ c ∷ d ∷ e ∷ f ∷ 58 ∷ rest) ≡ Some ((high * 1000 + low) * 1000, 58 ∷ rest)
-unfolding fraction_at after_text nanoseconds_of
-six_digits a b c d e f rest pa pb pc pd pe pf high low high_is low_is high_below low_below =
-    let digits : List ℕ = a ∷ b ∷ c ∷ d ∷ e ∷ f ∷ [] in
-    let numeral : IsNumeral digits = record { some = omega arith; all = rw (pa, pb, pc, pd, pe, pf) refl } in
-    let front : DigitsInFront digits (58 ∷ rest) (digits ++ (58 ∷ rest)) =
-    digits_in_front digits (58 ∷ rest) numeral refl in
-    let value : min (value_of digits) many ≡ high * 1000 + low = omega (arith, high_is, low_is) in
-    rw front.length_is (ap (λ n. Some (n * 1000, 58 ∷ rest)) value)
+-- six digits behind the point
+pub micro_below : (fraction : List ℕ) (value : ℕ) → 8 ≤ length fraction → BeginsWithDigits fraction 6 value
+    → value < 10 ^ 6
+micro_below fraction value long begins =
+    let few = few_below fraction 6 (omega (arith, long)) (omega arith) begins.passed in
+    let is = begins.value_is in omega (arith, few, is)
 
--- the same by the bytes of a text
-pub micro_fraction : (text rest : List ℕ) → 7 ≤ length text → get_or text 0 0 ≡ 46 → drop 7 text ≡ rest
-    → 1 ≤ length rest → get_or rest 0 0 ≡ 58 → is_digit (get_or text 1 0) ≡ true → is_digit (get_or text 2 0) ≡ true
-    → is_digit (get_or text 3 0) ≡ true → is_digit (get_or text 4 0) ≡ true → is_digit (get_or text 5 0) ≡ true
-    → is_digit (get_or text 6 0) ≡ true → (high low : ℕ)
-    → high ≡ value_of (get_or text 1 0 ∷ get_or text 2 0 ∷ get_or text 3 0 ∷ [])
-    → low ≡ value_of (get_or text 4 0 ∷ get_or text 5 0 ∷ get_or text 6 0 ∷ []) → high < 1000 → low < 1000
-    → fraction_at text ≡ Some ((high * 1000 + low) * 1000, rest)
-micro_fraction text rest long point behind some colon pa pb pc pd pe pf high low high_is low_is high_below low_below =
-    let byte : ℕ → ℕ = λ index. get_or text index 0 in
-    let colon_first : rest ≡ 58 ∷ drop 1 rest = drop_more rest 0 0 some ∙ ap (λ b. b ∷ drop 1 rest) colon in
-    let whole : text ≡ 46 ∷ byte 1 ∷ byte 2 ∷ byte 3 ∷ byte 4 ∷ byte 5 ∷ byte 6 ∷ 58 ∷ drop 1 rest =
-    drop_more text 0 0 (omega (arith, long)) ∙ ap (λ b. b ∷ drop 1 text) point
-    ∙ ap (λ (t : List ℕ). 46 ∷ t) (drop_more text 1 0 (omega (arith, long))
-    ∙ ap (λ (t : List ℕ). byte 1 ∷ t) (drop_more text 2 0 (omega (arith, long))
-    ∙ ap (λ (t : List ℕ). byte 2 ∷ t) (drop_more text 3 0 (omega (arith, long))
-    ∙ ap (λ (t : List ℕ). byte 3 ∷ t) (drop_more text 4 0 (omega (arith, long))
-    ∙ ap (λ (t : List ℕ). byte 4 ∷ t) (drop_more text 5 0 (omega (arith, long))
-    ∙ ap (λ (t : List ℕ). byte 5 ∷ t) (drop_more text 6 0 (omega (arith, long))
-    ∙ ap (λ (t : List ℕ). byte 6 ∷ t) (behind ∙ colon_first))))))) in
-    ap fraction_at whole
-    ∙ six_digits (byte 1) (byte 2) (byte 3) (byte 4) (byte 5) (byte 6) (drop 1 rest) pa pb pc pd pe pf high low high_is
-    low_is high_below low_below
-    ∙ ap (λ (t : List ℕ). Some ((high * 1000 + low) * 1000, t)) (sym colon_first)
+pub micro_fraction : (text fraction : List ℕ) (value : ℕ) → after_text (codes ".") text ≡ Some fraction
+    → 8 ≤ length fraction → BeginsWithDigits fraction 6 value
+    → fraction_at text ≡ Some (value * 1000, drop 6 fraction)
+unfolding fraction_at nanoseconds_of
+micro_fraction text fraction value point long begins =
+    let front = short_front fraction 6 value long (omega arith) begins in
+    let below = micro_below fraction value long begins in
+    let is : min (value_of (take 6 fraction)) many ≡ value = (let v = begins.value_is in omega (arith, v, below)) in
+    rw (point, sym front.count_is) (ap (λ n. Some (n * 1000, drop 6 fraction)) is)

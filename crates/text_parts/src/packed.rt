@@ -111,7 +111,7 @@ pub fn first_set(mask: u64) -> usize
 
 /// How many of the first eight bytes of a text are digits at its front, and their value.
 #[inline(always)]
-fn eight_at(text: &[u8]) -> (usize, u64)
+pub(crate) fn eight_at(text: &[u8]) -> (usize, u64)
     requires { 8 ≤ length text.now }
     ensures { BeginsWithDigits text.now result.0 result.1 }
 {

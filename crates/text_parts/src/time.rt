@@ -2,7 +2,8 @@ ghost use Rattle.std.specs.Prelude.{◌≡◌, ℕ, ◌<◌, ◌^◌, min, Some,
 ghost use Rattle.text_parts.specs.Time.{IsTime};
 ghost use Rattle.text_parts.specs.Reading.{Gives, nanoseconds_of, fraction_at, time_at};
 
-use crate::numerals::{MANY, number_by_call, numeral_at, three_digits};
+use crate::numerals::{MANY, number_by_call, numeral_at};
+use crate::packed::{TOGETHER, eight_at};
 use crate::pieces::after_byte;
 
 /// A time on the trace's clock.
@@ -59,21 +60,21 @@ fn fraction_at(text: &[u8]) -> Option<(u64, &[u8])>
     }
 }
 
-/// The same for six digits in front of a colon, as they stand in nearly all lines.
+/// The same for six digits, as they stand in nearly all lines.
 #[inline(always)]
 fn microseconds_at(text: &[u8]) -> Option<(u64, &[u8])>
     ensures value { IfSome result (λ x. fraction_at text.now ≡ Some (x.0, x.1.now)) }
     ensures below { IfSome result (λ x. x.0 < 10 ^ 9) }
 {
-    let [b'.', a, b, c, d, e, f, rest @ ..] = text else {
+    let fraction = after_byte(text, b'.')?;
+    if fraction.len() < TOGETHER {
         return None;
-    };
-    let [b':', ..] = rest else {
+    }
+    let (digits, value) = eight_at(fraction);
+    if digits != 6 {
         return None;
-    };
-    let thousands = three_digits(*a, *b, *c)?;
-    let ones = three_digits(*d, *e, *f)?;
-    Some(((thousands * 1000 + ones) * 1000, rest))
+    }
+    Some((value * 1000, &fraction[6..]))
 }
 
 /// The same for any digits.

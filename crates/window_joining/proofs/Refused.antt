@@ -24,6 +24,12 @@ still_outside cpus line event events first = record {
 pub still_inside : (cpus : ℕ) (event : Entry) → IsInside cpus event → IsOutsideWith cpus event None None
 still_inside cpus event inside events all = All-push (IsInside cpus) events event all inside
 
+-- what is known of the first one stays, where there is one or the event is inside
+pub outside_stays : (cpus : ℕ) (event : Entry) (outside : Option ℕ) → (outside ≡ None → IsInside cpus event)
+    → IsOutsideWith cpus event outside outside
+outside_stays cpus event None inside = still_inside cpus event (inside refl)
+outside_stays cpus event (Some line) inside = still_outside cpus line event
+
 pub now_outside : (cpus : ℕ) (event : Entry) → Any (λ cpu. cpus ≤ cpu) (touched event.act)
     → IsOutsideWith cpus event None (Some event.line)
 now_outside cpus event outside events all = record {

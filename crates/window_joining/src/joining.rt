@@ -5,7 +5,7 @@ use crate::between::{between, first_behind, last_on};
 use crate::hints::Hints;
 use crate::look::{Look, look_at};
 use crate::policies::Policies;
-use crate::refusing::{late_with, outside_with};
+use crate::refusing::{note_late, note_outside};
 use crate::strays::{lesser, stray_in};
 use cfs_model::{ChargeLine, Claim, Entry, IdleLine, Memory, NO_LINE, NiceLine, Policy};
 use companion_file::Companion;
@@ -180,8 +180,8 @@ impl Joining {
                 policy: Policy::Normal,
             },
         )?;
-        self.outside = outside_with(self.outside, event, head.cpus());
-        self.late = late_with(self.late, self.line, event, head.start());
+        note_outside(&mut self.outside, event, head.cpus());
+        note_late(&mut self.late, self.line, event, head.start());
         self.line = event.line;
         self.hints.claims = claims;
         Ok(())
@@ -286,8 +286,8 @@ impl Joining {
         if self.stray.is_none() {
             self.stray = stray_in(claims, nices, charges, idles, event);
         }
-        self.outside = outside_with(self.outside, event, head.cpus());
-        self.late = late_with(self.late, self.line, event, head.start());
+        note_outside(&mut self.outside, event, head.cpus());
+        note_late(&mut self.late, self.line, event, head.start());
         self.line = event.line;
         Ok(())
     }

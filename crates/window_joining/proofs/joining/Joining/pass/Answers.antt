@@ -36,7 +36,7 @@ returns c =
       })
     ] in
     passes_by c.args.head.now.cpus c.args.head.now.start news event before now _ mid refl refl
-    (subst (λ n. IsOutsideWith n event now.outside c.outside_with-self.result) c.cpus.ensures
-    c.outside_with-self.ensures.told) c.outside_with-self.ensures.stays
-    (subst (λ n. IsLateWith n now.line event now.late c.late_with-self.result) c.start.ensures
-    c.late_with-self.ensures.told) c.late_with-self.ensures.stays refl
+    (subst (λ n. IsOutsideWith n event now.outside c.note_outside.new.outside) c.cpus.ensures
+    c.note_outside.ensures.told) c.note_outside.ensures.stays
+    (subst (λ n. IsLateWith n now.line event now.late c.note_late.new.late) c.start.ensures
+    c.note_late.ensures.told) c.note_late.ensures.stays refl

@@ -9,7 +9,7 @@ use Rattle.cfs_model.specs.Machine.{put}
 use Rattle.cfs_model.specs.declared.task.Place.{Place}
 use Rattle.cfs_model.specs.declared.task.Place.TheVariants.{Run, Wait, Rest}
 use Rattle.runqueue.specs.declared.sched_entity.SchedEntity.{SchedEntity}
-use Rattle.runqueue.specs.Entities.{by_runtime, listed, entities, runtime_if, waiting_runtime, IsQueue, waiting_task}
+use Rattle.runqueue.specs.Entities.{listed, entities, runtime_if, waiting_runtime, IsQueue, waiting_task}
 use Rattle.runqueue.specs.TaskRows.{TaskRows, Writes}
 use Rattle.runqueue.specs.declared.waiting_task.WaitingTask.{WaitingTask}
 use Rattle.runqueue.specs.Tasks.{entity_of}

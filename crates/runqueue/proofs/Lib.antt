@@ -3,6 +3,7 @@ pub mod Parts
 pub mod TaskRows
 pub mod TaskOf
 pub mod WaitingLists
+pub mod WaitingOrder
 pub mod EntitiesKept
 pub mod Lifts
 pub mod Moved

@@ -1,12 +1,12 @@
 -- A list of those who wait that falls: one more in its place, one less, and the last, which is the least.
-use Rattle.std.proofs.Common.{◌≡◌, ℕ, zero, suc, ◌+◌, ◌-◌, ◌<◌, ◌≤◌, Bool, true, false, IsTrue, List, [], ◌∷◌, ◌++◌}
-use Rattle.std.proofs.Common.{length, take, drop, get_or, cond, ◌&&◌, ◌||◌, ℤ, ◌<ℤ◌, ◌⊎◌, inl, inr, refl, sym, ap, ◌∙◌}
+use Rattle.std.proofs.Common.{◌≡◌, ℕ, zero, suc, ◌-◌, ◌<◌, ◌≤◌, Bool, true, false, List, [], ◌∷◌, ◌++◌}
+use Rattle.std.proofs.Common.{length, take, drop, get_or, ◌&&◌, ◌||◌, ◌<ℤ◌, ◌⊎◌, inl, inr, refl, sym, ap, ◌∙◌}
 use Rattle.std.proofs.Common.{subst, eqb, true≢false, arith}
 use Rattle.std.specs.BTreeMap.{is_at}
 use Rattle.std.specs.BTreeSet as set
 use Rattle.std.specs.BTreeSet.{BTreeSet, contains}
-use Rattle.std.specs.List.{insert, list_all, list_any, prefix_len, remove}
-use Rattle.std.specs.Ordering.{MatchOrdering, int_cmp, is_eq, is_gt, nat_cmp, ordering_then}
+use Rattle.std.specs.List.{insert, list_all, list_any, remove}
+use Rattle.std.specs.Ordering.{MatchOrdering, int_cmp, is_eq, is_gt, is_lt, nat_cmp, ordering_then}
 use Rattle.std.specs.declared.cmp.Ordering.{Ordering}
 use Rattle.std.specs.declared.cmp.Ordering.TheVariants.{Less, Equal, Greater}
 use Rattle.std.proofs.lemmas.Bool.{and_from, and_parts, cases_Bool, eq-eqb, eqb-true}
@@ -15,14 +15,10 @@ use Rattle.std.proofs.lemmas.Int.{ints}
 use Rattle.std.proofs.Math.ListN.{drop_of_length-le}
 use Rattle.std.proofs.lemmas.List.{append-nil}
 use Rattle.std.proofs.lemmas.List.Folds.{list_any-append}
-use Rattle.std.proofs.lemmas.List.Sums.{prefix_len-le-length}
 use Rattle.runqueue.specs.Entities.{by_runtime}
 use Rattle.runqueue.specs.WaitingTasks.{falls}
 use Rattle.runqueue.proofs.EntitiesKept.{exact_runtimes, other_pair}
 use Rattle.runqueue.specs.declared.waiting_task.WaitingTask.{WaitingTask}
-
-pub place_within : (test : WaitingTask → Bool) (tasks : List WaitingTask) → prefix_len test tasks ≤ length tasks
-place_within test tasks = prefix_len-le-length test tasks
 
 -- one stands above another
 abbrev Above : WaitingTask → WaitingTask → Type 0
@@ -89,7 +85,7 @@ above_apart x y a = elim (cases_Bool (is_eq (by_runtime x y))) [ inl same ↦ ab
           | inr under ↦ (let p = e.1 in let lt = under.1 in omega (arith, lt, p))
         ]
 
-below_apart : (x y : WaitingTask) → is_gt (by_runtime x y) ≡ true → is_eq (by_runtime y x) ≡ false
+pub below_apart : (x y : WaitingTask) → is_gt (by_runtime x y) ≡ true → is_eq (by_runtime y x) ≡ false
 below_apart x y a = elim (cases_Bool (is_eq (by_runtime y x))) [ inl same ↦ absurd (never same) | inr other ↦ other ]
   where
     never : is_eq (by_runtime y x) ≡ true → ⊥
@@ -101,7 +97,7 @@ below_apart x y a = elim (cases_Bool (is_eq (by_runtime y x))) [ inl same ↦ ab
         ]
 
 -- and doesn't stand below it
-not_below : (x y : WaitingTask) → is_gt (by_runtime x y) ≡ true → is_gt (by_runtime y x) ≡ false
+pub not_below : (x y : WaitingTask) → is_gt (by_runtime x y) ≡ true → is_gt (by_runtime y x) ≡ false
 not_below x y a = elim (cases_Bool (is_gt (by_runtime y x))) [ inl back ↦ absurd (never back) | inr no' ↦ no' ]
   where
     never : is_gt (by_runtime y x) ≡ true → ⊥
@@ -148,7 +144,7 @@ above_else x y a b = go (by_runtime y x) refl
     go Equal e = absurd (true≢false (sym (ap is_eq e) ∙ b))
     go Greater e = ap is_gt e
 
-itself : (x : WaitingTask) → is_eq (by_runtime x x) ≡ true
+pub itself : (x : WaitingTask) → is_eq (by_runtime x x) ≡ true
 itself x = by_runtimes (int_cmp x.v x.v) (int_ranked x.v x.v (int_cmp x.v x.v) refl)
   where
     by_pids : (o : Ordering) → MatchOrdering o (x.pid < x.pid) (x.pid ≡ x.pid) (x.pid < x.pid) → is_eq o ≡ true
@@ -166,6 +162,15 @@ apart_back : (x y : WaitingTask) → is_eq (by_runtime x y) ≡ false → is_eq 
 apart_back x y apart = other_pair y x (λ same. true≢false (sym (itself x)
     ∙ ap (λ z. is_eq (by_runtime x z)) (sym same) ∙ apart))
 
+-- one that is less stands below
+pub above_less : (x y : WaitingTask) → is_lt (by_runtime x y) ≡ true → is_gt (by_runtime y x) ≡ true
+above_less x y less = go (by_runtime x y) refl
+  where
+    go : (o : Ordering) → by_runtime x y ≡ o → is_gt (by_runtime y x) ≡ true
+    go Less e = above_else x y (ap is_gt e) (apart_back x y (ap is_eq e))
+    go Equal e = absurd (true≢false (sym less ∙ ap is_lt e))
+    go Greater e = absurd (true≢false (sym less ∙ ap is_lt e))
+
 or_true : (a b : Bool) → b ≡ true → (a || b) ≡ true
 or_true true b e = refl
 or_true false b e = e
@@ -174,14 +179,25 @@ or_true false b e = e
 abbrev pub has : WaitingTask → List WaitingTask → Bool
 has task tasks = list_any (is_at (by_runtime task)) tasks
 
--- how many of a list stand above one
-abbrev pub place : WaitingTask → List WaitingTask → ℕ
-place task tasks = prefix_len (λ other. is_gt (by_runtime other task)) tasks
+-- all from an index on are less than one, and the one before is greater
+pub record StandsAt (task : WaitingTask) (tasks : List WaitingTask) (i : ℕ) : Type 0 where
+  pub within : i ≤ length tasks
+  pub less : list_all (λ other. is_gt (by_runtime task other)) (drop i tasks) ≡ true
+  pub greater : (d : WaitingTask) → 0 < i → is_gt (by_runtime (get_or tasks (i - 1) d) task) ≡ true
 
--- the first that doesn't stand above it isn't it
-abbrev pub Misses : WaitingTask → List WaitingTask → Type 0
-Misses task tasks = (d : WaitingTask) → place task tasks < length tasks
-    → is_eq (by_runtime task (get_or tasks (place task tasks) d)) ≡ false
+-- what a walk from the least finds, where the one that it stops at isn't it
+abbrev pub Walked : WaitingTask → List WaitingTask → ℕ → Type 0
+Walked task tasks i = (i ≤ length tasks) × (list_all (λ other. is_gt (by_runtime task other)) (drop i tasks) ≡ true)
+    × ((d : WaitingTask) → 0 < i → is_gt (by_runtime task (get_or tasks (i - 1) d)) ≡ false)
+
+pub stands_at : (task : WaitingTask) (tasks : List WaitingTask) (i : ℕ) → Walked task tasks i
+    → ((d : WaitingTask) → 0 < i → is_eq (by_runtime task (get_or tasks (i - 1) d)) ≡ false) → StandsAt task tasks i
+stands_at task tasks i walked apart = record {
+  within = walked.0;
+  less = walked.1;
+  greater = λ d some. above_else task (get_or tasks (i - 1) d) (walked.2 d some)
+      (apart_back task (get_or tasks (i - 1) d) (apart d some));
+}
 
 all_above : (x y : WaitingTask) (tasks : List WaitingTask) → is_gt (by_runtime x y) ≡ true
     → list_all (λ other. is_gt (by_runtime y other)) tasks ≡ true
@@ -200,43 +216,50 @@ none_below x (y ∷ tasks) all =
     let h = and_parts (is_gt (by_runtime x y)) (list_all (λ other. is_gt (by_runtime x other)) tasks) all in
     ap (λ b. b || has x tasks) (above_apart x y h.0) ∙ none_below x tasks h.1
 
-place_above : (task y : WaitingTask) (tasks : List WaitingTask) → is_gt (by_runtime y task) ≡ true
-    → place task (y ∷ tasks) ≡ suc (place task tasks)
-place_above task y tasks above =
-    let one : 1 + place task tasks ≡ suc (place task tasks) = omega arith in
-    ap (λ b. cond b (1 + place task tasks) 0) above ∙ one
-
-place_under : (task y : WaitingTask) (tasks : List WaitingTask) → is_gt (by_runtime y task) ≡ false
-    → place task (y ∷ tasks) ≡ 0
-place_under task y tasks under = ap (λ b. cond b (1 + place task tasks) 0) under
-
-misses_later : (task y : WaitingTask) (tasks : List WaitingTask) → is_gt (by_runtime y task) ≡ true
-    → Misses task (y ∷ tasks) → Misses task tasks
-misses_later task y tasks above misses d lt =
-    subst (λ i. i < length (y ∷ tasks) → is_eq (by_runtime task (get_or (y ∷ tasks) i d)) ≡ false)
-    (place_above task y tasks above) (misses d) (omega (arith, lt))
-
-misses_here : (task y : WaitingTask) (tasks : List WaitingTask) → is_gt (by_runtime y task) ≡ false
-    → Misses task (y ∷ tasks) → is_eq (by_runtime task y) ≡ false
-misses_here task y tasks under misses =
-    subst (λ i. i < length (y ∷ tasks) → is_eq (by_runtime task (get_or (y ∷ tasks) i y)) ≡ false)
-    (place_under task y tasks under) (misses y) (omega arith)
+-- one that stands above all stands above each
+above_at : (x : WaitingTask) (i : ℕ) (tasks : List WaitingTask) (d : WaitingTask)
+    → list_all (λ other. is_gt (by_runtime x other)) tasks ≡ true → i < length tasks
+    → is_gt (by_runtime x (get_or tasks i d)) ≡ true
+above_at x i [] d all lt = absurd (omega (arith, lt))
+above_at x zero (y ∷ tasks) d all lt =
+    (and_parts (is_gt (by_runtime x y)) (list_all (λ other. is_gt (by_runtime x other)) tasks) all).0
+above_at x (suc i) (y ∷ tasks) d all lt =
+    above_at x i tasks d
+    ((and_parts (is_gt (by_runtime x y)) (list_all (λ other. is_gt (by_runtime x other)) tasks) all).1)
+    (omega (arith, lt))
 
 module _ (task : WaitingTask) where
-  -- where the list falls and misses one, it isn't there
-  pub absent : (tasks : List WaitingTask) → falls tasks ≡ true → Misses task tasks → has task tasks ≡ false
-  absent [] f misses = refl
-  absent (y ∷ tasks) f misses =
+  -- behind the first the same
+  later : (y : WaitingTask) (tasks : List WaitingTask) (i : ℕ) → StandsAt task (y ∷ tasks) (suc i)
+      → StandsAt task tasks i
+  later y tasks i at = record {
+    within = (let w = at.within in omega (arith, w));
+    less = at.less;
+    greater = λ d some.
+        let before : suc i - 1 ≡ suc (i - 1) = omega (arith, some) in
+        subst (λ k. is_gt (by_runtime (get_or (y ∷ tasks) k d) task) ≡ true) before (at.greater d (omega arith));
+  }
+
+  -- the first stands above it, if it isn't the place
+  first_above : (y : WaitingTask) (tasks : List WaitingTask) (i : ℕ) → falls (y ∷ tasks) ≡ true
+      → StandsAt task (y ∷ tasks) (suc i) → is_gt (by_runtime y task) ≡ true
+  first_above y tasks zero f at = at.greater y (omega arith)
+  first_above y tasks (suc i) f at =
       let h = and_parts (list_all (λ other. is_gt (by_runtime y other)) tasks) (falls tasks) f in
-      elim (cases_Bool (is_gt (by_runtime y task))) [
-        | inl above ↦
-            ap (λ b. b || has task tasks) (below_apart y task above)
-            ∙ absent tasks h.1 (misses_later task y tasks above misses)
-        | inr under ↦
-            let m = misses_here task y tasks under misses in
-            ap (λ b. b || has task tasks) m
-            ∙ none_below task tasks (all_above task y tasks (above_else y task under m) h.0)
-      ]
+      let at_next = later y tasks (suc i) at in
+      let w = at_next.within in
+      let before : suc i - 1 ≡ i = omega arith in
+      above_through y (get_or tasks i y) task (above_at y i tasks y h.0 (omega (arith, w)))
+      (subst (λ k. is_gt (by_runtime (get_or tasks k y) task) ≡ true) before (at_next.greater y (omega arith)))
+
+  -- where it has a place so, it isn't there
+  pub absent : (tasks : List WaitingTask) (i : ℕ) → falls tasks ≡ true → StandsAt task tasks i → has task tasks ≡ false
+  absent tasks zero f at = none_below task tasks at.less
+  absent [] (suc i) f at = (let w = at.within in absurd (omega (arith, w)))
+  absent (y ∷ tasks) (suc i) f at =
+      let h = and_parts (list_all (λ other. is_gt (by_runtime y other)) tasks) (falls tasks) f in
+      ap (λ b. b || has task tasks) (below_apart y task (first_above y tasks i f at))
+      ∙ absent tasks i h.1 (later y tasks i at)
 
   all_inserted : (x : WaitingTask) (i : ℕ) (tasks : List WaitingTask) → is_gt (by_runtime x task) ≡ true
       → list_all (λ other. is_gt (by_runtime x other)) tasks ≡ true
@@ -249,28 +272,16 @@ module _ (task : WaitingTask) where
       and_from (is_gt (by_runtime x y)) (list_all (λ other. is_gt (by_runtime x other)) (insert tasks i task)) h.0
       (all_inserted x i tasks a h.1)
 
-  -- it stands in its place
-  pub inserted_falls : (tasks : List WaitingTask) → falls tasks ≡ true → Misses task tasks
-      → falls (insert tasks (place task tasks) task) ≡ true
-  inserted_falls [] f misses = refl
-  inserted_falls (y ∷ tasks) f misses =
+  -- the list falls with it there
+  pub inserted_falls : (tasks : List WaitingTask) (i : ℕ) → falls tasks ≡ true → StandsAt task tasks i
+      → falls (insert tasks i task) ≡ true
+  inserted_falls tasks zero f at =
+      and_from (list_all (λ other. is_gt (by_runtime task other)) tasks) (falls tasks) at.less f
+  inserted_falls [] (suc i) f at = (let w = at.within in absurd (omega (arith, w)))
+  inserted_falls (y ∷ tasks) (suc i) f at =
       let h = and_parts (list_all (λ other. is_gt (by_runtime y other)) tasks) (falls tasks) f in
-      elim (cases_Bool (is_gt (by_runtime y task))) [
-        | inl above ↦
-            subst (λ i. falls (insert (y ∷ tasks) i task) ≡ true) (sym (place_above task y tasks above))
-            (and_from (list_all (λ other. is_gt (by_runtime y other)) (insert tasks (place task tasks) task))
-            (falls (insert tasks (place task tasks) task))
-            (all_inserted y (place task tasks) tasks above h.0)
-            (inserted_falls tasks h.1 (misses_later task y tasks above misses)))
-        | inr under ↦
-            let m = misses_here task y tasks under misses in
-            let a = above_else y task under m in
-            subst (λ i. falls (insert (y ∷ tasks) i task) ≡ true) (sym (place_under task y tasks under))
-            (and_from (is_gt (by_runtime task y) && list_all (λ other. is_gt (by_runtime task other)) tasks)
-            (falls (y ∷ tasks))
-            (and_from (is_gt (by_runtime task y)) (list_all (λ other. is_gt (by_runtime task other)) tasks) a
-            (all_above task y tasks a h.0)) f)
-      ]
+      and_from (list_all (λ other. is_gt (by_runtime y other)) (insert tasks i task)) (falls (insert tasks i task))
+      (all_inserted y i tasks (first_above y tasks i f at) h.0) (inserted_falls tasks i h.1 (later y tasks i at))
 
   -- and is there, beside those that were
   pub inserted_here : (i : ℕ) (tasks : List WaitingTask) → has task (insert tasks i task) ≡ true
@@ -305,18 +316,6 @@ removed_falls (suc i) (y ∷ tasks) f =
     let h = and_parts (list_all (λ other. is_gt (by_runtime y other)) tasks) (falls tasks) f in
     and_from (list_all (λ other. is_gt (by_runtime y other)) (remove tasks i)) (falls (remove tasks i))
     (all_removed y i tasks h.0) (removed_falls i tasks h.1)
-
--- one that stands above all stands above each
-above_at : (x : WaitingTask) (i : ℕ) (tasks : List WaitingTask) (d : WaitingTask)
-    → list_all (λ other. is_gt (by_runtime x other)) tasks ≡ true → i < length tasks
-    → is_gt (by_runtime x (get_or tasks i d)) ≡ true
-above_at x i [] d all lt = absurd (omega (arith, lt))
-above_at x zero (y ∷ tasks) d all lt =
-    (and_parts (is_gt (by_runtime x y)) (list_all (λ other. is_gt (by_runtime x other)) tasks) all).0
-above_at x (suc i) (y ∷ tasks) d all lt =
-    above_at x i tasks d
-    ((and_parts (is_gt (by_runtime x y)) (list_all (λ other. is_gt (by_runtime x other)) tasks) all).1)
-    (omega (arith, lt))
 
 -- to take out the last is to take it off
 pub last_removed : (tasks : List WaitingTask) → 0 < length tasks

@@ -1,9 +1,10 @@
-ghost use Rattle.std.specs.Prelude.{◌≡◌, ◌+◌, ◌<◌, ◌≤◌, true, false, length, IfOk, OnOk, OnErr};
+ghost use Rattle.std.specs.Prelude.{◌≡◌, ◌-◌, ◌<◌, ◌≤◌, ◌++◌, ◌∷◌, [], List, true, false, drop, length, slice_index_or};
+ghost use Rattle.std.specs.Prelude.{reverse, slice_get, IfOk, OnOk, OnErr};
 ghost use Rattle.std.specs.BTreeSet.{contains};
-ghost use Rattle.std.specs.List.{prefix_len};
+ghost use Rattle.std.specs.List.{list_all};
 ghost use Rattle.std.specs.Ordering.{is_gt};
 ghost use Rattle.runqueue.specs.Entities.{by_runtime};
-ghost use Rattle.runqueue.specs.WaitingTasks.{falls, set_of, Updates};
+ghost use Rattle.runqueue.specs.WaitingTasks.{falls, set_of, IsSettled, Updates};
 ghost use Rattle.runqueue.specs.declared.waiting_task.WaitingTask.{WaitingTask as Waiting};
 
 use crate::waiting_task::WaitingTask;
@@ -27,19 +28,19 @@ pub struct WaitingTasks {
 }
 
 impl Model for WaitingTasks {
-    ghost use Rattle.std.specs.Prelude.{◌++◌};
+    ghost use Rattle.std.specs.Prelude.{◌++◌, reverse};
     ghost use Rattle.std.specs.BTreeSet.{BTreeSet};
     ghost use Rattle.runqueue.specs.WaitingTasks.{set_of};
     ghost use Rattle.runqueue.specs.declared.waiting_task.WaitingTask.{WaitingTask};
 
     ghost Value = { BTreeSet WaitingTask };
 
-    ghost view = { λ waiting. set_of (waiting.list.items ++ waiting.tree.keys) };
+    ghost view = { λ waiting. set_of (reverse waiting.list.items ++ waiting.tree.keys) };
 }
 
 impl WaitingTasks {
     ghost use Rattle.std.specs.Prelude.{[], ◌↔◌, IfSome, IsSome, IsTrue};
-    ghost use Rattle.std.specs.BTreeSet.{IsLowerBound, btree_set_len};
+    ghost use Rattle.std.specs.BTreeSet.{IsLowerBound, IsOrdered, btree_set_len};
 
     /// Nobody. Takes no memory.
     pub(crate) fn new(alloc: Global) -> WaitingTasks
@@ -120,13 +121,26 @@ impl WaitingTasks {
     }
 
     /// The one at an index, in their order.
-    pub fn nth(&self, index: usize) -> Option<WaitingTask> {
+    pub fn nth(&self, index: usize) -> Option<WaitingTask>
+        ensures at { result ≡ slice_get self.now.keys index }
+        ensures ordered { IsOrdered by_runtime self.now }
+    {
         if self.tree.is_empty() {
-            let place = self.list.len().checked_sub(index)?.checked_sub(1)?;
-            self.list.get(place).copied()
+            nth_listed(&self.list, index)
         } else {
             self.tree.iter().nth(index).copied()
         }
+    }
+}
+
+/// The one at an index of a list, from its last on.
+fn nth_listed(list: &[WaitingTask], index: usize) -> Option<WaitingTask>
+    ensures { result ≡ slice_get (reverse list.now) index }
+{
+    if index < list.len() {
+        Some(list[list.len() - 1 - index])
+    } else {
+        None
     }
 }
 
@@ -138,12 +152,28 @@ fn insert_listed(list: &mut Vec<WaitingTask>, task: WaitingTask) -> Result<(), M
     ensures updates { OnOk result (Updates (set_of list.old.items) (set_of list.new.items) task true) }
     ensures err { OnErr result (list.new.items ≡ list.old.items) }
 {
-    let place = place_in(list, task);
-    if place < list.len() && list[place] == task {
-        return Ok(());
+    list.push(task)?;
+    let place = settle(list, task);
+    if place > 0 && list[place - 1] == task {
+        list.remove(place);
     }
-    list.insert(place, task)?;
     Ok(())
+}
+
+/// Lets the last of a list, which is this task, change places with those that are less, and says where it stands then.
+/// Whoever is woken comes near the least.
+#[inline(always)]
+fn settle(list: &mut [WaitingTask], task: WaitingTask) -> usize
+    requires { (tasks : List Waiting) × (list.old ≡ tasks ++ task ∷ []) }
+    ensures { (tasks : List Waiting) → list.old ≡ tasks ++ task ∷ [] → IsSettled tasks task result list.new }
+{
+    let mut place = list.len() - 1;
+    while place > 0 && list[place - 1] < task {
+        list[place] = list[place - 1];
+        list[place - 1] = task;
+        place -= 1;
+    }
+    place
 }
 
 /// Takes one out of a list. Mostly it is the least.
@@ -159,18 +189,25 @@ fn remove_listed(list: &mut Vec<WaitingTask>, task: WaitingTask)
         return;
     }
     let place = place_in(list, task);
-    if place < count && list[place] == task {
-        list.remove(place);
+    if place > 0 && list[place - 1] == task {
+        list.remove(place - 1);
     }
 }
 
-/// How many of a list stand above a task.
+/// How many of a list that falls aren't less than a task. Whoever is woken comes near the least, so the list is walked
+/// from there.
 #[inline(always)]
-#[tactic(auto, using(crate::proofs::WaitingLists::place_within))]
 fn place_in(list: &[WaitingTask], task: WaitingTask) -> usize
-    ensures { result ≡ prefix_len (λ other. is_gt (by_runtime other task)) list.now }
+    ensures within { result ≤ length list.now }
+    ensures less { list_all (λ other. is_gt (by_runtime task other)) (drop result list.now) ≡ true }
+    ensures stops { (d : Waiting) → 0 < result
+        → is_gt (by_runtime task (slice_index_or list.now (result - 1) d)) ≡ false }
 {
-    list.iter().take_while(|other| **other > task).count()
+    let mut place = list.len();
+    while place > 0 && list[place - 1] < task {
+        place -= 1;
+    }
+    place
 }
 
 /// A tree of those in a list.

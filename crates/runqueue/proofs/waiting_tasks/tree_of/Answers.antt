@@ -1,8 +1,5 @@
-use Rattle.std.proofs.Common.{◌≡◌, ◌∙◌, ap, sym, take, get_or, arith}
-use Rattle.std.specs.BTreeMap.{is_at}
-use Rattle.std.specs.List.{list_any}
-use Rattle.std.proofs.lemmas.List.{take_all, take_more}
-use Rattle.runqueue.specs.Entities.{by_runtime}
+use Rattle.std.proofs.Common.{◌∙◌, ap, sym, take}
+use Rattle.std.proofs.lemmas.List.{take_more}
 use Rattle.runqueue.proofs.WaitingLists.{has, one_more}
 use Rattle.runqueue.proofs.waiting_tasks.tree_of.Goals as goal
 

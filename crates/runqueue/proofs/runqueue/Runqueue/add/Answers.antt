@@ -1,5 +1,5 @@
 use Rattle.std.proofs.Common.{◌≡◌, ℤ, Some, true, refl, subst, ap, ◌∙◌, rules, to_z, of_z, w64}
-use Rattle.runqueue.specs.Entities.{by_runtime, waiting_task}
+use Rattle.runqueue.specs.Entities.{waiting_task}
 use Rattle.runqueue.specs.TaskRows.{KeepsRows, with_pid}
 use Rattle.runqueue.proofs.EntitiesKept.{no_runner, same_queue}
 use Rattle.runqueue.proofs.Moved.{same_waiting_keys}

@@ -1,6 +1,6 @@
 use Rattle.std.proofs.Common.{◌≡◌, ℤ, true, subst, refl, rules, Some, to_z, of_z, w64, None}
 use Rattle.cfs_model.specs.declared.act.Way.TheVariants.{Stays}
-use Rattle.runqueue.specs.Entities.{by_runtime, waiting_task}
+use Rattle.runqueue.specs.Entities.{waiting_task}
 use Rattle.runqueue.specs.WaitingTasks.{Updates}
 use Rattle.runqueue.proofs.Moved.{kept_runner, back_queue, runner_leaves}
 use Rattle.runqueue.proofs.EntitiesKept.{nobody_runs}

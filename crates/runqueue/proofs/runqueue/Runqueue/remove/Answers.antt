@@ -1,5 +1,5 @@
 use Rattle.std.proofs.Common.{◌≡◌, ℤ, false, subst, sym, ◌∙◌, rules, to_z, of_z, w64}
-use Rattle.runqueue.specs.Entities.{by_runtime, waiting_task}
+use Rattle.runqueue.specs.Entities.{waiting_task}
 use Rattle.runqueue.specs.WaitingTasks.{Updates}
 use Rattle.runqueue.proofs.Moved.{gone_queue, nowhere_queue, gone_entities}
 use Rattle.runqueue.proofs.TaskRows.{keeps_same, runner_row_kept}

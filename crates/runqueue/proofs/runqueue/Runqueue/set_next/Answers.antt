@@ -4,7 +4,7 @@ use Rattle.cfs_model.specs.declared.task.Place.TheVariants.{Run}
 use Rattle.runqueue.specs.declared.sched_entity.SchedEntity.{SchedEntity}
 use Rattle.replay_model.specs.AfterDeed.{part_after_next}
 use Rattle.replay_model.specs.Part.{Part}
-use Rattle.runqueue.specs.Entities.{by_runtime, entities, waiting_task}
+use Rattle.runqueue.specs.Entities.{entities, waiting_task}
 use Rattle.runqueue.specs.Tasks.{entity_of}
 use Rattle.runqueue.specs.WaitingTasks.{Updates}
 use Rattle.runqueue.proofs.TaskRows.{has_row, runner_row_at}

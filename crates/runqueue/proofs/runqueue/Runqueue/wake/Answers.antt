@@ -1,7 +1,7 @@
 use Rattle.std.proofs.Common.{◌≡◌, ℤ, true, refl, subst, sym, ap, ◌∙◌, rules, Some, option_map, to_z, of_z, w64}
 use Rattle.cfs_model.specs.declared.task.Place.TheVariants.{Wait}
 use Rattle.runqueue.specs.Queue.{runqueue_view}
-use Rattle.runqueue.specs.Entities.{by_runtime, entities, waiting_task}
+use Rattle.runqueue.specs.Entities.{entities, waiting_task}
 use Rattle.runqueue.specs.Tasks.{entity_of}
 use Rattle.runqueue.specs.WaitingTasks.{Updates}
 use Rattle.runqueue.proofs.Moved.{nobody_woken, not_woken, wake_has, woken_queue, woken_part}

@@ -2,7 +2,7 @@
 
 use bstr::ByteSlice;
 use cfs_model::{GREATEST_PID, GREATEST_RUNTIME, NANOSECONDS_PER_SECOND};
-use ftrace_line::{read_line, usual_front};
+use ftrace_line::{RecentClocks, read_line, usual_front};
 use memchr::memchr_iter;
 use text_parts::lines::next_line;
 use text_parts::numerals::numeral_at;
@@ -42,17 +42,20 @@ const NAME: &[u8] = b"sched_stat_runtime: ";
 pub(crate) const LABEL: &[u8] = b": sched_stat_runtime: ";
 
 /// The charge that the first line of a text prints, if it is a line of that event, and what follows the line.
-pub(crate) fn first_charge(text: &[u8]) -> (Option<Printed>, &[u8]) {
+pub(crate) fn first_charge<'a>(
+    text: &'a [u8],
+    clocks: &mut RecentClocks,
+) -> (Option<Printed>, &'a [u8]) {
     let (line, after) = next_line(text);
     match label_of(line) {
-        Some(label) => (charge_on(line, label), after),
+        Some(label) => (charge_on(line, label, clocks), after),
         None => (None, after),
     }
 }
 
 /// The charge that a line prints on which the label stands first at this place.
-fn charge_on(line: &[u8], label: usize) -> Option<Printed> {
-    match usual_front(line) {
+fn charge_on(line: &[u8], label: usize, clocks: &mut RecentClocks) -> Option<Printed> {
+    match usual_front(line, clocks) {
         Some(front) => Some(Printed {
             time: front.time,
             cpu: front.cpu,

@@ -3,6 +3,7 @@
 use crate::print::Print;
 use crate::printed::{LABEL, Printed, first_charge};
 use cfs_model::{MOST_PROCESSORS, Memory};
+use ftrace_line::RecentClocks;
 use memchr::{memchr_iter, memmem};
 use std::alloc::Global;
 
@@ -33,12 +34,13 @@ impl Prints {
             self.lines = self.lines.saturating_add(line_count(text));
             return Ok(());
         }
+        let mut clocks = RecentClocks::new();
         let mut rest = text;
         for _ in 0..text.len() {
             if rest.is_empty() {
                 break;
             }
-            let (printed, after) = first_charge(rest);
+            let (printed, after) = first_charge(rest, &mut clocks);
             rest = after;
             self.lines = self.lines.saturating_add(1);
             if let Some(printed) = printed {

@@ -3,6 +3,7 @@ ghost use Rattle.cfs_model.specs.Limits.{greatest_line};
 
 use crate::bad_line::BadLine;
 use cfs_model::{Entry, Memory};
+use ftrace_line::RecentClocks;
 use sched_record::{TraceCause, TraceFault, careful_entry, usual_entry};
 use std::alloc::Global;
 use std::mem::swap;
@@ -17,6 +18,7 @@ pub struct EntryReader {
     /// The time of the last event in nanoseconds, and 0 before the first.
     last: u64,
     bad: Option<BadLine>,
+    clocks: RecentClocks,
     pub ghost few: { count ≤ greatest_line },
     pub ghost last_fits: { last < 2 ^ 64 },
 }
@@ -41,6 +43,7 @@ impl EntryReader {
             count: 0,
             last: 0,
             bad: None,
+            clocks: RecentClocks::new(),
         }
     }
 
@@ -117,7 +120,7 @@ impl EntryReader {
             → HasReadOut self.new lines given) }
     {
         let number = self.count + 1;
-        if let Some((said, rest)) = usual_entry(number, text) {
+        if let Some((said, rest)) = usual_entry(number, text, &mut self.clocks) {
             self.take(Ok(said))?;
             return Ok(rest);
         }

@@ -1,5 +1,5 @@
 use cfs_model::GREATEST_PID;
-use ftrace_line::{Line, read_line, usual_front};
+use ftrace_line::{Line, RecentClocks, read_line, usual_front};
 use std::ops::Range;
 use text_parts::numerals::number_at;
 use text_parts::pieces::begins_with;
@@ -38,7 +38,7 @@ fn cpu_of(line: &[u8]) -> Option<u32> {
     if let Ok(Line::Sched(sched)) = read_line(line) {
         return Some(sched.cpu);
     }
-    let front = usual_front(line)?;
+    let front = usual_front(line, &mut RecentClocks::new())?;
     begins_with(front.rest, CHARGE).then_some(front.cpu)
 }
 

@@ -54,7 +54,7 @@ digit_is_flag b e =
     let no_colon : eqb b 58 ≡ false = ne_eqb b 58 (λ same. omega (arith, leb-true b 57 p.1)) in
     rw (digit_is_no_space b e, no_colon) refl
 
-flags_of_digits : (s : List ℕ) → IsTrue (list_all is_digit s) → IsTrue (list_all is_flag s)
+pub flags_of_digits : (s : List ℕ) → IsTrue (list_all is_digit s) → IsTrue (list_all is_flag s)
 flags_of_digits [] all = refl
 flags_of_digits (b ∷ s) all =
     let p = and_parts (is_digit b) (list_all is_digit s) all in

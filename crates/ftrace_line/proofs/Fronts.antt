@@ -12,15 +12,16 @@ use Rattle.text_parts.specs.Unbroken.{IsUnbroken}
 use Rattle.text_parts.specs.Numerals.{is_digit, value_of, IsNumeral}
 use Rattle.text_parts.specs.Pieces.{IsRunOf, joined, is_space, IsGap}
 use Rattle.text_parts.specs.Time.{IsTime}
-use Rattle.text_parts.proofs.Times.{TakesTime}
+use Rattle.text_parts.proofs.Times.{TakesFraction}
 use Rattle.text_parts.proofs.Unbroken.{unbroken_append, unbroken_run, joined_behind, joined_unbroken}
 use Rattle.cfs_model.specs.Limits.{greatest_processor, greatest_seconds, nanoseconds_per_second}
 use Rattle.ftrace_line.specs.declared.kinds.Which.{Which}
 use Rattle.ftrace_line.specs.declared.kinds.Which.TheVariants.{Switch, Wakeup, WakeupNew, MigrateTask}
 use Rattle.ftrace_line.specs.Head.{is_group_byte, IsThreadGroup, is_flag}
+use Rattle.ftrace_line.specs.Clock.{is_mark, HasFlags, HasSeconds}
 use Rattle.ftrace_line.specs.Line.{label_of, IsEventLine}
 use Rattle.ftrace_line.specs.Meaning.{kind_at, fields_of}
-use Rattle.ftrace_line.specs.Usual.{is_mark, HasFlags, HasName, HasHead, HasFront}
+use Rattle.ftrace_line.specs.Usual.{HasName, HasHead, HasFront}
 use Rattle.ftrace_line.proofs.HeadParts.{TakesProcessor}
 use Rattle.ftrace_line.proofs.Labels.{label_taken, unlabelled_taken}
 
@@ -45,7 +46,7 @@ mark_unbroken byte e =
 pub digits_unbroken : (s : List ℕ) → IsNumeral s → IsUnbroken s
 digits_unbroken s is = unbroken_run is_digit digit_unbroken s is.all
 
-gap_unbroken : (s : List ℕ) → IsGap s → IsUnbroken s
+pub gap_unbroken : (s : List ℕ) → IsGap s → IsUnbroken s
 gap_unbroken s is = unbroken_run is_space space_unbroken s is.all
 
 column_unbroken : (s : List ℕ) → IsThreadGroup s → IsUnbroken s
@@ -112,16 +113,14 @@ pub record HeadSteps (text : List ℕ) (cpu seconds nanoseconds : ℕ) (rest : L
   pub group : List ℕ
   pub bracket : List ℕ
   pub clock : List ℕ
-  pub flags : List ℕ
-  pub stamp : List ℕ
+  pub fraction : List ℕ
   pub name : HasName text pid
   pub digits : (w : List ℕ) × IsNumeral w × (pid ≡ w ++ pid_gap)
   pub space : (w : List ℕ) × IsGap w × (pid_gap ≡ w ++ group)
   pub column : (w : List ℕ) × IsThreadGroup w × (group ≡ w ++ bracket)
   pub processor : TakesProcessor bracket cpu clock
-  pub gap : (w : List ℕ) × IsGap w × (clock ≡ w ++ flags)
-  pub has_flags : HasFlags flags stamp
-  pub time : TakesTime stamp seconds nanoseconds (58 ∷ 32 ∷ rest)
+  pub whole_seconds : HasSeconds clock seconds fraction
+  pub parts_of_second : TakesFraction fraction nanoseconds (58 ∷ 32 ∷ rest)
 
 pub head_stands : (text : List ℕ) (cpu seconds nanoseconds : ℕ) (rest : List ℕ)
     → HeadSteps text cpu seconds nanoseconds rest → cpu ≤ greatest_processor → seconds ≤ greatest_seconds
@@ -132,12 +131,23 @@ head_stands text cpu seconds nanoseconds rest s few early =
     let space : List ℕ = s.space.0 in
     let column : List ℕ = s.column.0 in
     let processor : List ℕ = s.processor.digits in
-    let gap : List ℕ = s.gap.0 in
-    let flags : List ℕ = s.has_flags.flags in
-    let time : List ℕ = s.time.time in
+    let gap : List ℕ = s.whole_seconds.gap in
+    let flags : List ℕ = s.whole_seconds.flags in
+    let seconds_digits : List ℕ = s.whole_seconds.digits in
+    let fraction_digits : List ℕ = s.parts_of_second.digits in
+    let time : List ℕ = seconds_digits ++ (46 ∷ fraction_digits) in
     let parts : List (List ℕ) = codes " " ∷ name ∷ codes "-" ∷ digits ∷ space ∷ column ∷ codes "[" ∷ processor
     ∷ codes "]" ∷ gap ∷ flags ∷ time ∷ codes ": " ∷ [] in
-    let exact : s.time.exact_seconds ≡ seconds = omega (arith, s.time.seconds_are, early) in
+    let exact : seconds ≡ value_of seconds_digits = omega (arith, s.whole_seconds.value_is, early) in
+    let form : IsTime time seconds nanoseconds = record {
+      whole_digits = seconds_digits;
+      whole_numeral = s.whole_seconds.digits_form;
+      whole_value = exact;
+      fraction_digits = fraction_digits;
+      fraction_numeral = s.parts_of_second.numeral;
+      fraction_value = s.parts_of_second.value;
+      whole = refl;
+    } in
     let value : cpu ≡ value_of processor = omega (arith, s.processor.value_is, few) in
     record {
       front = joined parts;
@@ -161,10 +171,10 @@ head_stands text cpu seconds nanoseconds rest s few early =
                       (
                         refl,
                         (
-                          gap_unbroken gap s.gap.1,
+                          gap_unbroken gap s.whole_seconds.gap_form,
                           (
-                            s.has_flags.unbroken,
-                            (time_unbroken time s.time.exact_seconds nanoseconds s.time.form, (refl, tt)),
+                            s.whole_seconds.unbroken,
+                            (time_unbroken time seconds nanoseconds form, (refl, tt)),
                           ),
                         ),
                       ),
@@ -180,9 +190,9 @@ head_stands text cpu seconds nanoseconds rest s few early =
           ∙ ap (λ (t : List ℕ). digits ++ t) (s.space.2
           ∙ ap (λ (t : List ℕ). space ++ t) (s.column.2
           ∙ ap (λ (t : List ℕ). column ++ t) (s.processor.whole
-          ∙ ap (λ (t : List ℕ). 91 ∷ (processor ++ (93 ∷ t))) (s.gap.2
-          ∙ ap (λ (t : List ℕ). gap ++ t) (s.has_flags.parts
-          ∙ ap (λ (t : List ℕ). flags ++ t) s.time.whole))))))
+          ∙ ap (λ (t : List ℕ). 91 ∷ (processor ++ (93 ∷ t))) (s.whole_seconds.parts
+          ∙ ap (λ (t : List ℕ). gap ++ (flags ++ t)) (ap (λ (t : List ℕ). seconds_digits ++ t) s.parts_of_second.whole
+          ∙ sym (append_assoc seconds_digits (46 ∷ fraction_digits) (58 ∷ 32 ∷ rest))))))))
           ∙ sym (joined_behind parts rest);
       event = λ more. record {
         seconds = seconds;
@@ -201,11 +211,11 @@ head_stands text cpu seconds nanoseconds rest s few early =
           processor_width = s.processor.width;
           processor_value = value;
           processor_gap = gap;
-          processor_gap_form = s.gap.1;
+          processor_gap_form = s.whole_seconds.gap_form;
           flags = flags;
-          flags_form = s.has_flags.form;
+          flags_form = s.whole_seconds.flags_form;
           time = time;
-          time_form = subst (λ n. IsTime time n nanoseconds) exact s.time.form;
+          time_form = form;
           whole = joined_behind parts more;
         };
         cpu_in_range = few;

@@ -9,3 +9,4 @@ pub mod OneReading
 pub mod Answered
 pub mod Shapes
 pub mod Fronts
+pub mod Remembered

@@ -1,4 +1,5 @@
 pub mod Head
+pub mod Clock
 pub mod Line
 pub mod Seen
 pub mod Front

@@ -1,6 +1,6 @@
 -- The front of a text that goes on behind its first line, where that line is an event's: what is told of it, whatever
 -- stands behind the front (ftrace.rst; that such a front is told at once is this project's profile).
-use Rattle.std.specs.Prelude.{◌≡◌, ℕ, ◌<◌, ◌&&◌, ◌==◌, not, Bool, nat_lt, List, ◌∷◌, ◌++◌, length, Option, Some}
+use Rattle.std.specs.Prelude.{◌≡◌, ℕ, ◌<◌, List, ◌∷◌, ◌++◌, length, Option, Some}
 use Rattle.std.specs.Prelude.{None, Ok}
 use Rattle.std.specs.List.{before_first}
 use Rattle.ftrace_line.specs.declared.kinds.Which.{Which}
@@ -8,19 +8,7 @@ use Rattle.text_parts.specs.Lines.{is_line_feed}
 use Rattle.text_parts.specs.Numerals.{IsNumeral}
 use Rattle.text_parts.specs.Pieces.{IsGap}
 use Rattle.text_parts.specs.Unbroken.{IsUnbroken}
-use Rattle.ftrace_line.specs.Head.{IsFlags}
 use Rattle.ftrace_line.specs.Line.{IsEventLine, LineAnswer, other, sched}
-
--- the bytes that are looked for in a word of flags: they are printed, and none is a space, a `:` or a line feed
-abbrev pub is_mark : ℕ → Bool
-is_mark byte = nat_lt 32 byte && not (byte == 58)
-
--- flags, where they are there, stand at the front of a text
-pub record HasFlags (text rest : List ℕ) : Type 0 where
-  pub flags : List ℕ
-  pub form : IsFlags flags
-  pub unbroken : IsUnbroken flags
-  pub parts : text ≡ flags ++ rest
 
 -- the columns of a name and the `-` behind them stand at the front of a text
 pub record HasName (text rest : List ℕ) : Type 0 where

@@ -149,7 +149,7 @@ fn clock_at(text: &[u8]) -> Option<(Time, &[u8])>
 /// A time with its colon and space, and what follows them.
 #[inline(always)]
 #[tactic(auto, unfolding(crate::specs::Meaning::stamp_at))]
-pub(crate) fn stamp_at(text: &[u8]) -> Option<(Time, &[u8])>
+fn stamp_at(text: &[u8]) -> Option<(Time, &[u8])>
     ensures { Gives (λ x. (x.0.seconds, x.0.nanoseconds, x.1.now)) result (stamp_at text.now) }
 {
     let (time, rest) = time_at(text)?;
@@ -190,7 +190,7 @@ fn flags_width(text: &[u8]) -> usize
 /// What follows a colon and a space.
 #[inline(always)]
 #[tactic(auto, unfolding(text_parts::specs::Reading::after_text))]
-fn after_colon(text: &[u8]) -> Option<&[u8]>
+pub(crate) fn after_colon(text: &[u8]) -> Option<&[u8]>
     ensures { Gives (λ x. x.now) result (after_text (codes ": ") text.now) }
 {
     match text {

@@ -1,10 +1,19 @@
 use crate::answers::wants;
 use cfs_model::{Act, Nice, Way};
+use ftrace_line::RecentClocks;
 use sched_event::{UsualEvent, usual_line};
 
 /// What is told of the first line of a text: what it says, and what follows it.
 fn told(text: &[u8]) -> Option<(Option<UsualEvent>, &[u8])> {
-    match usual_line(text) {
+    told_after(text, &mut RecentClocks::new())
+}
+
+/// The same where lines were read before.
+fn told_after<'a>(
+    text: &'a [u8],
+    clocks: &mut RecentClocks,
+) -> Option<(Option<UsualEvent>, &'a [u8])> {
+    match usual_line(text, clocks) {
         Some(usual) => Some((usual.event, usual.rest)),
         None => None,
     }
@@ -90,6 +99,84 @@ fn heads_of_many_kernels_are_told(rt: HostRuntime) {
             &told(text),
             &Some((at(8_282_570_000, wakes_15()), b"next")),
         );
+    }
+}
+
+/// Lines that one reader reads one after the other, and their times in nanoseconds.
+static CLOCKS: [(&[u8], u64); 14] = [
+    (
+        b"            spin-87      [000] dNs4.     8.282570: sched_wakeup: comm=rcu_preempt pid=15 prio=120 target_cpu=000\nnext",
+        8_282_570_000,
+    ),
+    (
+        b"            spin-87      [000] dNs4.     8.282571: sched_wakeup: comm=rcu_preempt pid=15 prio=120 target_cpu=000\nnext",
+        8_282_571_000,
+    ),
+    // The next second, other flags, the flags of before, and none.
+    (
+        b"            spin-87      [000] dNs4.     9.000000: sched_wakeup: comm=rcu_preempt pid=15 prio=120 target_cpu=000\nnext",
+        9_000_000_000,
+    ),
+    (
+        b"            spin-87      [000] d..2.     9.000001: sched_wakeup: comm=rcu_preempt pid=15 prio=120 target_cpu=000\nnext",
+        9_000_001_000,
+    ),
+    (
+        b"            spin-87      [000] dNs4.     9.000002: sched_wakeup: comm=rcu_preempt pid=15 prio=120 target_cpu=000\nnext",
+        9_000_002_000,
+    ),
+    (
+        b"            spin-87      [000]     9.000003: sched_wakeup: comm=rcu_preempt pid=15 prio=120 target_cpu=000\nnext",
+        9_000_003_000,
+    ),
+    // One more digit where fewer were read before, and fewer again.
+    (
+        b"            spin-87      [000] d..2. 1.000000: sched_wakeup: comm=rcu_preempt pid=15 prio=120 target_cpu=000\nnext",
+        1_000_000_000,
+    ),
+    (
+        b"            spin-87      [000] d..2. 12.000000: sched_wakeup: comm=rcu_preempt pid=15 prio=120 target_cpu=000\nnext",
+        12_000_000_000,
+    ),
+    (
+        b"            spin-87      [000] d..2. 1.500000: sched_wakeup: comm=rcu_preempt pid=15 prio=120 target_cpu=000\nnext",
+        1_500_000_000,
+    ),
+    // Sixteen bytes before the point, seventeen, and sixteen again.
+    (
+        b"            spin-87      [000] d..2. 123456789.000001: sched_wakeup: comm=rcu_preempt pid=15 prio=120 target_cpu=000\nnext",
+        123_456_789_000_001_000,
+    ),
+    (
+        b"            spin-87      [000] d..2. 1234567890.000001: sched_wakeup: comm=rcu_preempt pid=15 prio=120 target_cpu=000\nnext",
+        1_234_567_890_000_001_000,
+    ),
+    (
+        b"            spin-87      [000] d..2. 123456789.000002: sched_wakeup: comm=rcu_preempt pid=15 prio=120 target_cpu=000\nnext",
+        123_456_789_000_002_000,
+    ),
+    // Two spaces before the flags, and a time in their place.
+    (
+        b"            spin-87      [000]  d..2.     9.000004: sched_wakeup: comm=rcu_preempt pid=15 prio=120 target_cpu=000\nnext",
+        9_000_004_000,
+    ),
+    (
+        b"            spin-87      [000] 8.282570     9.000005: sched_wakeup: comm=rcu_preempt pid=15 prio=120 target_cpu=000\nnext",
+        9_000_005_000,
+    ),
+];
+
+#[test]
+fn each_line_is_told_by_its_own_clock(rt: HostRuntime) {
+    let mut clocks = RecentClocks::new();
+    for _ in 0..2 {
+        for (text, time) in &CLOCKS {
+            wants(
+                &rt,
+                &told_after(text, &mut clocks),
+                &Some((at(*time, wakes_15()), b"next")),
+            );
+        }
     }
 }
 

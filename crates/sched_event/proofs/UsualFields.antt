@@ -1,12 +1,15 @@
 -- The fields of a usual line: each stands behind its key with no line feed in it, so all of them stand in the first
 -- line of the text, and what is read of them is what that line says.
-use Rattle.std.proofs.Common.{◌≡◌, ◌≢◌, ℕ, zero, suc, ◌+◌, ◌<◌, ◌≤◌, Bool, true, false, List, [], ◌∷◌, ◌++◌, length}
-use Rattle.std.proofs.Common.{get_or, take, drop, Some, None, Ok, refl}
+use Rattle.std.proofs.Common.{◌≡◌, ◌≢◌, ℕ, zero, suc, ◌+◌, ◌<◌, ◌≤◌, Bool, true, false, not, leb, List, [], ◌∷◌, ◌++◌}
+use Rattle.std.proofs.Common.{length, map, get_or, take, drop, Some, None, Ok, refl}
 use Rattle.std.proofs.Common.{sym, ap, subst, ◌∙◌, arith}
 use Rattle.std.specs.Prelude.{codes, IsTrue}
 use Rattle.std.specs.List.{before_first, after_first, list_all, position_or_len, prefix_len, take_while}
-use Rattle.std.proofs.lemmas.Bool.{and_parts, and_from, ltb-true, ne_eqb}
-use Rattle.std.proofs.lemmas.List.{append-nil, length-append, length-drop, take-append-drop}
+use Rattle.std.specs.Simd.Lanes.{mask_l}
+use Rattle.std.proofs.lemmas.Bool.{and_parts, and_from, ltb-true, leb-false, ne_eqb}
+use Rattle.std.proofs.lemmas.List.{append-nil, length-append, length-drop, length-take-le, take-append-drop}
+use Rattle.std.proofs.lemmas.Simd.{trailing_mask_l, run_in_chunk_le, run_in_chunk_fails}
+use lib.Count.{count_trailing_zeros}
 use Rattle.std.proofs.lemmas.List.Folds.{list_any_more}
 use Rattle.cfs_model.specs.declared.act.Act.{Act}
 use Rattle.ftrace_line.specs.declared.kinds.Which.{Which}
@@ -68,6 +71,30 @@ above_unbroken s (suc n) within above =
       above_unbroken s n (omega arith) (λ index lt. above index (omega arith)),
       last,
     ) refl
+
+-- the lowest bit of a space or a control character among sixteen bytes
+pub record FirstGap (text : List ℕ) (first : ℕ) : Type 0 where
+  pub within : first ≤ 16
+  pub plain : IsUnbroken (take first text)
+
+pub first_gap_at : (text : List ℕ) (mask : ℕ) → 16 ≤ length text
+    → mask ≡ mask_l (map (λ byte. leb byte 32) (take 16 text)) → (mask ≡ 0 → ⊥)
+    → FirstGap text (count_trailing_zeros 64 mask)
+first_gap_at text mask long is some =
+    let is_gap : ℕ → Bool = λ byte. leb byte 32 in
+    let first : ℕ = count_trailing_zeros 64 mask in
+    let front : length (take 16 text) ≡ 16 = length-take-le 16 text long in
+    let counted : first ≡ prefix_len (λ byte. not (is_gap byte)) (take 16 text) =
+    ap (count_trailing_zeros 64) is
+    ∙ trailing_mask_l is_gap 64 (take 16 text) (omega (arith, front)) (omega (arith, is, some)) in
+    let room : 0 + 16 ≤ length text = omega arith in
+    let within : first ≤ 16 = run_in_chunk_le is_gap text 0 16 first 0 room counted in
+    record {
+      within = within;
+      plain = above_unbroken text first (omega (arith, within, long)) (λ index lt.
+          leb-false (get_or text index 0) 32
+          (run_in_chunk_fails is_gap text 0 16 first 0 room counted index (omega arith) (omega (arith, lt))));
+    }
 
 -- and one more byte that isn't a line feed
 pub one_more_unbroken : (s : List ℕ) (n : ℕ) → n < length s → get_or s n 0 ≢ 10 → IsUnbroken (take n s)

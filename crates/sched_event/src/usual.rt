@@ -7,10 +7,10 @@ ghost use Rattle.sched_event.specs.Usual.{HasFields, HasAct, IsUsual};
 use crate::fields::{fields, numeral};
 use crate::migration::{MigrationFields, migration_of};
 use crate::switch::{SwitchFields, switch_of};
-use crate::usual_fields::{name, prio, state};
+use crate::usual_fields::{name, numeral_there, prio, state};
 use crate::wakeup::{WakeupFields, wakeup_of};
 use cfs_model::Act;
-use ftrace_line::{Which, usual_front};
+use ftrace_line::{RecentClocks, Which, usual_front};
 use text_parts::lines::{line_end, next_line};
 
 /// What one of the four events does, and when.
@@ -34,10 +34,10 @@ pub struct UsualLine<'a> {
 /// its front on, and the end of the line isn't looked for first. Nothing is said of a line that has another form, or
 /// that is bad.
 #[inline(always)]
-pub fn usual_line(text: &[u8]) -> Option<UsualLine<'_>>
+pub fn usual_line<'a>(text: &'a [u8], clocks: &mut RecentClocks) -> Option<UsualLine<'a>>
     ensures { IfSome result (λ usual. IsUsual text.now usual.event usual.rest.now) }
 {
-    let front = usual_front(text)?;
+    let front = usual_front(text, clocks)?;
     match front.which {
         None => {
             let (_line, rest) = next_line(front.rest);
@@ -126,11 +126,11 @@ fn switch_front(text: &[u8]) -> Option<(SwitchFields<'_>, &[u8])>
     let rest = text;
     fields!(rest;
         b"prev_comm=" => prev_name: name,
-        b" prev_pid=" => prev: numeral,
+        b" prev_pid=" => prev: numeral_there,
         b" prev_prio=" => prev_prio: prio,
         b" prev_state=" => prev_state: state,
         b" ==> next_comm=" => next_name: name,
-        b" next_pid=" => next: numeral,
+        b" next_pid=" => next: numeral_there,
         b" next_prio=" => next_prio: prio,
     );
     Some((
@@ -155,7 +155,7 @@ fn wakeup_front(text: &[u8]) -> Option<(WakeupFields<'_>, &[u8])>
     let rest = text;
     fields!(rest;
         b"comm=" => task: name,
-        b" pid=" => pid: numeral,
+        b" pid=" => pid: numeral_there,
         b" prio=" => task_prio: prio,
         b" target_cpu=" => target: numeral,
     );
@@ -180,7 +180,7 @@ fn migration_front(text: &[u8]) -> Option<(MigrationFields<'_>, &[u8])>
     let rest = text;
     fields!(rest;
         b"comm=" => task: name,
-        b" pid=" => pid: numeral,
+        b" pid=" => pid: numeral_there,
         b" prio=" => task_prio: prio,
         b" orig_cpu=" => orig: numeral,
         b" dest_cpu=" => dest: numeral,

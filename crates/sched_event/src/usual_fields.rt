@@ -1,6 +1,6 @@
 //! The fields of a text that goes on behind its line: no line ends in what is read here.
 
-ghost use Rattle.std.specs.Prelude.{◌≡◌, ◌<◌, ◌≤◌, length, take, map, nat_le, Some, IfSome};
+ghost use Rattle.std.specs.Prelude.{◌≡◌, ◌<◌, ◌≤◌, true, length, take, drop, map, nat_le, Some, IfSome};
 ghost use Rattle.std.specs.List.{prefix_len};
 ghost use Rattle.std.specs.Simd.Lanes.{mask_l};
 ghost use Rattle.text_parts.specs.Packed.{BeginsWithRun};
@@ -9,13 +9,14 @@ ghost use Rattle.sched_event.specs.Texts.{IsName, IsState};
 ghost use Rattle.sched_event.specs.FieldsView.{numeral_pair, prio_pair};
 ghost use Rattle.sched_event.specs.Reading.{numeral_behind, prio_behind, run_at};
 ghost use Rattle.text_parts.specs.Numerals.{is_digit};
+ghost use Rattle.text_parts.specs.Pieces.{begins_with};
 ghost use Rattle.text_parts.specs.Reading.{Gives};
 ghost use Rattle.sched_event.specs.Usual.{HasField, HasMiddlePrio, is_plain};
 
 use crate::fields::{NAME_MAX, PrioFields, digits};
 use crate::numeral::Numeral;
 use std::simd::prelude::*;
-use text_parts::numerals::{doubled, is_digit_byte};
+use text_parts::numerals::is_digit_byte;
 use text_parts::packed::{TOGETHER, first_set};
 use text_parts::pieces::{after_front, begins_with};
 
@@ -24,10 +25,21 @@ use text_parts::pieces::{after_front, begins_with};
 pub(crate) fn name<'a>(text: &'a [u8], key: &[u8], next: &[u8]) -> Option<(&'a [u8], &'a [u8])>
     ensures name { IfSome result (λ x. IsName x.0.now) }
     ensures field { IfSome result (λ x. HasField key.now text.now x.0.now x.1.now) }
+    ensures next { IfSome result (λ x. begins_with next.now x.1.now ≡ true) }
 {
     let after = after_front(text, key)?;
     let index = name_length(after, next)?;
     Some(after.split_at(index))
+}
+
+/// The digits behind a key that stands there, and what follows them.
+#[inline(always)]
+#[tactic(auto, unfolding(crate::specs::Reading::numeral_behind))]
+pub(crate) fn numeral_there<'a>(text: &'a [u8], key: &[u8]) -> Option<(Numeral<'a>, &'a [u8])>
+    requires { begins_with key.now text.now ≡ true }
+    ensures { Gives numeral_pair result (numeral_behind key.now text.now) }
+{
+    digits(&text[key.len()..])
 }
 
 /// The letters of a state behind a key, and what follows them.
@@ -98,11 +110,12 @@ fn name_length(text: &[u8], next: &[u8]) -> Option<usize>
     ensures short { IfSome result (λ index. index ≤ 15) }
     ensures within { IfSome result (λ index. index ≤ length text.now) }
     ensures unbroken { IfSome result (λ index. IsUnbroken (take index text.now)) }
+    ensures next { IfSome result (λ index. begins_with next.now (drop index text.now) ≡ true) }
 {
     if text.len() <= NAME_MAX {
         return None;
     }
-    let index = usize::from(first_gap(text));
+    let index = first_gap(text);
     if index > NAME_MAX {
         return None;
     }
@@ -121,6 +134,7 @@ fn spaced_length(text: &[u8], first: usize, next: &[u8]) -> Option<usize>
     ensures short { IfSome result (λ index. index ≤ 15) }
     ensures within { IfSome result (λ index. index ≤ length text.now) }
     ensures unbroken { IfSome result (λ index. IsUnbroken (take index text.now)) }
+    ensures next { IfSome result (λ index. begins_with next.now (drop index text.now) ≡ true) }
 {
     let mut index = first;
     while index <= NAME_MAX {
@@ -138,28 +152,25 @@ fn spaced_length(text: &[u8], first: usize, next: &[u8]) -> Option<usize>
 /// The first of the first sixteen indices at which a space or a control character stands, or 16. Names have all
 /// lengths, so all indices are looked at with no branch to guess.
 #[inline(always)]
-fn first_gap(text: &[u8]) -> u8
+fn first_gap(text: &[u8]) -> usize
     requires { 15 < length text.now }
     ensures within { result ≤ 16 }
     ensures plain { IsUnbroken (take result text.now) }
 {
-    let mut first = 16;
-    for index in 0..16u8 {
-        first = first.min(index_if_gap(index, text[usize::from(index)]));
+    let gaps = gaps_of_sixteen(u8x16::from_slice(text));
+    if gaps == 0 {
+        16
+    } else {
+        gaps.trailing_zeros() as usize
     }
-    first
 }
 
-/// The index where its byte is a space or a control character, or else 16 or more. There is no test: sixteen times what
-/// another byte is above the space is above every index, so that sixteen indices are looked at by a few instructions.
+/// Which of sixteen bytes are spaces or control characters, by a bit for each.
 #[inline(always)]
-fn index_if_gap(index: u8, byte: u8) -> u8
-    requires { index < 16 }
-    ensures gap { byte ≤ 32 → result ≡ index }
-    ensures other { 32 < byte → 16 ≤ result }
+fn gaps_of_sixteen(bytes: u8x16) -> u64
+    ensures { result ≡ mask_l (map (λ byte. nat_le byte 32) bytes) }
 {
-    let twice = doubled(byte.saturating_sub(b' '));
-    index.saturating_add(doubled(doubled(doubled(twice))))
+    bytes.simd_le(u8x16::splat(b' ')).to_bitmask()
 }
 
 /// The next index up to 16 at which a space or a control character stands, or 16.

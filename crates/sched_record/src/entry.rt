@@ -7,20 +7,24 @@ ghost use Rattle.sched_record.specs.Said.{LineSays};
 
 use crate::cause::TraceCause;
 use cfs_model::{Entry, GREATEST_LINE};
-use ftrace_line::{Line, read_line};
+use ftrace_line::{Line, RecentClocks, read_line};
 use sched_event::{UsualEvent, read_event, usual_line};
 use text_parts::lines::next_line;
 
 /// What the first line of a text says, and what follows that line. The number of the line counts from 1, comments
 /// included.
 #[inline(always)]
-pub fn next_entry(number: u64, text: &[u8]) -> (Result<Option<Entry>, TraceCause>, &[u8])
+pub fn next_entry<'a>(
+    number: u64,
+    text: &'a [u8],
+    clocks: &mut RecentClocks,
+) -> (Result<Option<Entry>, TraceCause>, &'a [u8])
     requires { 0 < length text.now }
     ensures says { LineSays number (before_first is_line_feed text.now) result.0 }
     ensures lines { lines_of text.now ≡ before_first is_line_feed text.now ∷ lines_of result.1.now }
     ensures shorter { length result.1.now < length text.now }
 {
-    match usual_entry(number, text) {
+    match usual_entry(number, text, clocks) {
         Some((said, rest)) => (Ok(said), rest),
         None => careful_entry(number, text),
     }
@@ -29,7 +33,11 @@ pub fn next_entry(number: u64, text: &[u8]) -> (Result<Option<Entry>, TraceCause
 /// The same for a line of the usual form, and nothing for others. Such a line isn't refused, so that a reader of many
 /// lines has less to tell apart.
 #[inline(always)]
-pub fn usual_entry(number: u64, text: &[u8]) -> Option<(Option<Entry>, &[u8])>
+pub fn usual_entry<'a>(
+    number: u64,
+    text: &'a [u8],
+    clocks: &mut RecentClocks,
+) -> Option<(Option<Entry>, &'a [u8])>
     ensures says { IfSome result (λ x. LineSays number (before_first is_line_feed text.now) (Ok x.0)) }
     ensures lines { IfSome result (λ x. lines_of text.now ≡ before_first is_line_feed text.now ∷ lines_of x.1.now) }
     ensures shorter { IfSome result (λ x. length x.1.now < length text.now) }
@@ -37,7 +45,7 @@ pub fn usual_entry(number: u64, text: &[u8]) -> Option<(Option<Entry>, &[u8])>
     if number > GREATEST_LINE {
         return None;
     }
-    match usual_line(text) {
+    match usual_line(text, clocks) {
         Some(usual) => Some((entry_of(number, usual.event), usual.rest)),
         None => None,
     }

@@ -10,6 +10,7 @@ use crate::indices::Indices;
 use crate::lists::Events;
 use crate::trace::Trace;
 use cfs_model::{Entry, GREATEST_LINE, Memory};
+use ftrace_line::RecentClocks;
 use std::alloc::Global;
 
 /// A bad line: its number, from 1, comments counted, and why it is bad.
@@ -29,6 +30,7 @@ pub struct TraceReader {
     /// The time of the last event in nanoseconds, and 0 before the first.
     last: u64,
     bad: Option<BadLine>,
+    clocks: RecentClocks,
     ghost few: { count ≤ greatest_line },
     ghost kept: { AreKept entries.items count last },
     ghost counted: { length entries.items ≤ count },
@@ -55,6 +57,7 @@ impl TraceReader {
             count: 0,
             last: 0,
             bad: None,
+            clocks: RecentClocks::new(),
         }
     }
 
@@ -71,7 +74,7 @@ impl TraceReader {
             if self.bad.is_some() {
                 return Ok(());
             }
-            let (said, after) = next_entry(self.count + 1, rest);
+            let (said, after) = next_entry(self.count + 1, rest, &mut self.clocks);
             self.take(said)?;
             rest = after;
         }
@@ -119,6 +122,7 @@ impl TraceReader {
             count,
             last,
             bad: _,
+            clocks,
         } = self;
         let base = count as u32;
         entries.reserve(later.entries.len())?;
@@ -136,6 +140,7 @@ impl TraceReader {
             count: count + later.count,
             last: last.max(later.last),
             bad: None,
+            clocks,
         })
     }
 

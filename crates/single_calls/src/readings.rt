@@ -1,5 +1,5 @@
 use companion_file::{Companion, CompanionFault, read_companion, read_companion_wide};
-use ftrace_line::{Line, read_line};
+use ftrace_line::{Line, RecentClocks, read_line};
 use sched_event::{Event, UsualEvent, read_event, usual_line};
 use sched_record::{Trace, TraceFault, read_trace, read_trace_wide};
 use std::thread::Threads;
@@ -63,8 +63,8 @@ fn events_of(text: &[u8]) -> Found {
 }
 
 /// What a usual line at the front of a text adds to the sum; none where the line has another form.
-fn usual_part(text: &[u8]) -> Option<u64> {
-    match usual_line(text) {
+fn usual_part(text: &[u8], clocks: &mut RecentClocks) -> Option<u64> {
+    match usual_line(text, clocks) {
         Some(usual) => Some(part_of(usual.event)),
         None => None,
     }
@@ -83,10 +83,11 @@ fn usual_of(text: &[u8]) -> Found {
     let mut lines = 0u64;
     let mut others = 0u64;
     let mut sum = 0u64;
+    let mut clocks = RecentClocks::new();
     let mut rest = text;
     while !rest.is_empty() {
         let (line, after) = next_line(rest);
-        match usual_part(rest) {
+        match usual_part(rest, &mut clocks) {
             Some(part) => {
                 lines = lines.wrapping_add(1);
                 sum = sum.wrapping_add(part);

@@ -8,9 +8,9 @@ use Rattle.std.proofs.lemmas.Bool.{cases_Bool, and_parts, leb-true, eqb-true}
 use Rattle.std.proofs.lemmas.Option.{same_Some}
 use Rattle.text_parts.specs.Numerals.{is_digit, value_of, many, IsNumeral}
 use Rattle.text_parts.specs.Time.{IsFraction, IsTime}
-use Rattle.text_parts.specs.Reading.{◌>>=◌, after_text, numeral_at, front_value, nanoseconds_of, time_at}
+use Rattle.text_parts.specs.Reading.{◌>>=◌, after_text, numeral_at, front_value, nanoseconds_of, fraction_at, time_at}
 use Rattle.text_parts.proofs.Runs.{Stops, digits_in_front, numeral_again, numeral_taken, TakesNumeral, text_taken}
-use Rattle.text_parts.proofs.Runs.{text_again, bind_some, run_passes, front_and_rest, length_front}
+use Rattle.text_parts.proofs.Runs.{text_again, bind_some, bind_elim, run_passes, front_and_rest, length_front}
 
 value_below_from : (k v : ℕ) (s : List ℕ) → v < 10 ^ k → IsTrue (list_all is_digit s) →
     fold (λ value digit. value * 10 + (digit - 48)) v s < 10 ^ (k + length s)
@@ -108,6 +108,41 @@ time_from s text fraction seconds nanoseconds w point found =
           ∙ ap (λ (t : List ℕ). 46 ∷ t) (front_and_rest is_digit fraction))
           ∙ sym (append_assoc whole_digits (46 ∷ digits) rest);
     }
+
+-- a point and digits were taken from the front of s, and rest is left
+pub record TakesFraction (s : List ℕ) (nanoseconds : ℕ) (rest : List ℕ) : Type 0 where
+  pub digits : List ℕ
+  pub numeral : IsNumeral digits
+  pub value : IsFraction digits nanoseconds
+  pub whole : s ≡ 46 ∷ (digits ++ rest)
+
+fraction_from : (s digits : List ℕ) (nanoseconds : ℕ) → s ≡ 46 ∷ digits →
+    nanoseconds_of (prefix_len is_digit digits) (front_value digits) ≡ Some nanoseconds →
+    TakesFraction s nanoseconds (drop (prefix_len is_digit digits) digits)
+fraction_from s digits nanoseconds point found =
+    let there : nanoseconds_of (length (take_while is_digit digits)) (min (value_of (take_while is_digit digits)) many)
+    ≡ Some nanoseconds = rw (length_front is_digit digits) found in
+    let form : IsFraction (take_while is_digit digits) nanoseconds =
+    is_fraction (take_while is_digit digits) nanoseconds (run_passes is_digit digits) there in
+    record {
+      digits = take_while is_digit digits;
+      numeral = record {
+        some = fraction_some (take_while is_digit digits) nanoseconds form;
+        all = run_passes is_digit digits;
+      };
+      value = form;
+      whole = point ∙ ap (λ (t : List ℕ). 46 ∷ t) (front_and_rest is_digit digits);
+    }
+
+pub fraction_taken : (s : List ℕ) (nanoseconds : ℕ) (rest : List ℕ) → fraction_at s ≡ Some (nanoseconds, rest)
+    → TakesFraction s nanoseconds rest
+unfolding fraction_at
+fraction_taken s nanoseconds rest e =
+    bind_elim (after_text (codes ".") s) _ (nanoseconds, rest) e (λ digits point e.
+    bind_elim (nanoseconds_of (prefix_len is_digit digits) (front_value digits)) _ (nanoseconds, rest) e (λ n found e.
+    subst (λ (x : ℕ × List ℕ). TakesFraction s x.0 x.1)
+    (same_Some (n, drop (prefix_len is_digit digits) digits) (nanoseconds, rest) e)
+    (fraction_from s digits n (text_taken (codes ".") s digits point) found)))
 
 -- what is left to do behind the point, and behind the seconds
 abbrev with_fraction : ℕ → List ℕ → ℕ → Option (ℕ × ℕ × List ℕ)

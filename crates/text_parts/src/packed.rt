@@ -128,6 +128,15 @@ pub(crate) fn eight_at(text: &[u8]) -> (usize, u64)
     (count, joined(word_of(digits) << (64 - 8 * count)))
 }
 
+/// The word that the first eight bytes of a text are, the first the lowest.
+#[inline(always)]
+pub fn first_word(text: &[u8]) -> u64
+    requires { 8 ≤ length text.now }
+    ensures { result ≡ number_l 256 (take 8 text.now) }
+{
+    word_of(u8x8::from_slice(text))
+}
+
 /// The first eight bytes of a text, less that of the digit 0.
 #[inline(always)]
 fn digits_in(text: &[u8]) -> u8x8

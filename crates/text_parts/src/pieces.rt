@@ -37,15 +37,6 @@ pub fn after_gap(text: &[u8]) -> Option<&[u8]>
     beyond(text, gap_width(text))
 }
 
-/// What follows one or more spaces, by a call.
-#[inline(always)]
-#[tactic(auto, unfolding(crate::specs::Reading::after_run))]
-pub fn after_gap_by_call(text: &[u8]) -> Option<&[u8]>
-    ensures { Gives (λ x. x.now) result (after_run is_space text.now) }
-{
-    beyond(text, wide_gap(text))
-}
-
 /// What follows so many bytes, where there are some.
 #[inline(always)]
 pub fn beyond(text: &[u8], count: usize) -> Option<&[u8]>

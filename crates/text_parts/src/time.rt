@@ -50,7 +50,7 @@ pub fn time_at(text: &[u8]) -> Option<(Time, &[u8])>
 
 /// The nanoseconds that a point and the digits behind it stand for, and what follows them.
 #[inline(always)]
-fn fraction_at(text: &[u8]) -> Option<(u64, &[u8])>
+pub fn fraction_at(text: &[u8]) -> Option<(u64, &[u8])>
     ensures value { Gives (λ x. (x.0, x.1.now)) result (fraction_at text.now) }
     ensures below { IfSome result (λ x. x.0 < 10 ^ 9) }
 {

@@ -373,6 +373,7 @@ pub(crate) fn idle_deadline(since: Option<u64>, time: u64, slack: u64) -> Option
 }
 
 /// Since when nothing runs here beside a waiting task, after an event at this time, in nanoseconds.
+#[inline(always)]
 pub(crate) fn since_after(before: Option<u64>, time: u64, queue: &Runqueue) -> Option<u64>
     ensures { IsSince before time (runqueue_view queue.now) result }
 {

@@ -152,7 +152,8 @@ fn insert_listed(list: &mut Vec<WaitingTask>, task: WaitingTask) -> Result<(), M
     ensures updates { OnOk result (Updates (set_of list.old.items) (set_of list.new.items) task true) }
     ensures err { OnErr result (list.new.items ≡ list.old.items) }
 {
-    list.push(task)?;
+    list.reserve(1)?;
+    list.push_reserved(task);
     let place = settle(list, task);
     if place > 0 && list[place - 1] == task {
         list.remove(place);

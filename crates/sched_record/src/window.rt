@@ -1,4 +1,4 @@
-ghost use Rattle.std.specs.Prelude.{◌≡◌, ◌==◌, ℕ, ◌<◌, ◌^◌, ◌++◌, [], ◌∷◌, length, vec_capacity, vec_len};
+ghost use Rattle.std.specs.Prelude.{◌≡◌, ◌==◌, ℕ, ◌<◌, ◌^◌, ◌++◌, [], ◌∷◌, length};
 ghost use Rattle.std.specs.Prelude.{if◌then◌else◌, ◌≤◌, IfSome, IsSome, None, OnErr, OnOk};
 ghost use Rattle.std.specs.List.{list_any};
 ghost use Rattle.std.proofs.Props.{props};
@@ -66,7 +66,7 @@ impl Window {
         }
         // Taken apart: the check knows the types of what is named.
         let Entry { line, time, act } = event;
-        push_in(&mut self.events, Entry { line, time, act });
+        self.events.push_reserved(Entry { line, time, act });
         Ok(())
     }
 
@@ -237,15 +237,4 @@ fn touches(act: Act, cpu: u32) -> bool
 {
     let (one, other) = act.ends();
     one == cpu || other == cpu
-}
-
-/// Puts an item at the end of a list that has room for it.
-#[inline(always)]
-fn push_in<T: Drop>(list: &mut Vec<T>, item: T)
-    requires { vec_len list.old < vec_capacity list.old }
-    ensures { list.new.items ≡ list.old.items ++ item ∷ [] }
-{
-    if list.push(item).is_err() {
-        unreachable!();
-    }
 }

@@ -1,4 +1,4 @@
-use Rattle.std.proofs.Common.{◌≡◌, ◌<◌, ◌-◌, length, drop, ap, ◌∙◌, sym, subst, true, false}
+use Rattle.std.proofs.Common.{◌≡◌, ◌<◌, ◌-◌, ◌++◌, ◌∷◌, [], length, drop, ap, ◌∙◌, sym, subst, true, false}
 use Rattle.std.proofs.Common.{get_or, refl, arith}
 use Rattle.std.specs.BTreeMap.{is_at}
 use Rattle.std.specs.List.{remove}
@@ -22,10 +22,11 @@ returns-then-eq-clause-falls c =
     let task = c.args.task in
     let place = c.settle-place.result in
     let new = c.settle-place.new.list in
-    let is = c.deref_mut.ensures.value ∙ c.in_ok-push.ensures.items in
+    let pushed = c.push_reserved.ensures.items ∙ ap (λ tasks. tasks ++ task ∷ []) c.in_ok-reserve.ensures.items in
+    let is = c.deref_mut.ensures.value ∙ pushed in
     let settled = c.settle-place.ensures items is in
-    let all = settled_all items new (drop (length new) c.push.new.self.items) c.deref_mut.result.now task place
-    c.push.new.self.len settled is c.deref_mut.ensures.len in
+    let all = settled_all items new (drop (length new) c.push_reserved.new.self.items) c.deref_mut.result.now task place
+    c.push_reserved.new.self.len settled is c.deref_mut.ensures.len in
     subst (λ tasks. falls tasks ≡ true)
     (sym (c.remove.ensures.items ∙ ap (λ tasks. remove tasks place) all
     ∙ removed_again items place task settled.within)) c.requires
@@ -36,10 +37,11 @@ returns-then-eq-clause-updates c =
     let task = c.args.task in
     let place = c.settle-place.result in
     let new = c.settle-place.new.list in
-    let is = c.deref_mut.ensures.value ∙ c.in_ok-push.ensures.items in
+    let pushed = c.push_reserved.ensures.items ∙ ap (λ tasks. tasks ++ task ∷ []) c.in_ok-reserve.ensures.items in
+    let is = c.deref_mut.ensures.value ∙ pushed in
     let settled = c.settle-place.ensures items is in
-    let all = settled_all items new (drop (length new) c.push.new.self.items) c.deref_mut.result.now task place
-    c.push.new.self.len settled is c.deref_mut.ensures.len in
+    let all = settled_all items new (drop (length new) c.push_reserved.new.self.items) c.deref_mut.result.now task place
+    c.push_reserved.new.self.len settled is c.deref_mut.ensures.len in
     let other = c.index.result.now in
     let some = c.if-place-gt0.true in
     let within = settled.within in
@@ -62,10 +64,11 @@ returns-else-place-gt0-clause-falls c =
     let task = c.args.task in
     let place = c.settle-place.result in
     let new = c.settle-place.new.list in
-    let is = c.deref_mut.ensures.value ∙ c.in_ok-push.ensures.items in
+    let pushed = c.push_reserved.ensures.items ∙ ap (λ tasks. tasks ++ task ∷ []) c.in_ok-reserve.ensures.items in
+    let is = c.deref_mut.ensures.value ∙ pushed in
     let settled = c.settle-place.ensures items is in
-    let all = settled_all items new (drop (length new) c.push.new.self.items) c.deref_mut.result.now task place
-    c.push.new.self.len settled is c.deref_mut.ensures.len in
+    let all = settled_all items new (drop (length new) c.push_reserved.new.self.items) c.deref_mut.result.now task place
+    c.push_reserved.new.self.len settled is c.deref_mut.ensures.len in
     let walked : Walked task items place = (settled.within, settled.less, settled.stops) in
     let at : StandsAt task items place =
     elim c.else-place-gt0.branch [
@@ -90,10 +93,11 @@ returns-else-place-gt0-clause-updates c =
     let task = c.args.task in
     let place = c.settle-place.result in
     let new = c.settle-place.new.list in
-    let is = c.deref_mut.ensures.value ∙ c.in_ok-push.ensures.items in
+    let pushed = c.push_reserved.ensures.items ∙ ap (λ tasks. tasks ++ task ∷ []) c.in_ok-reserve.ensures.items in
+    let is = c.deref_mut.ensures.value ∙ pushed in
     let settled = c.settle-place.ensures items is in
-    let all = settled_all items new (drop (length new) c.push.new.self.items) c.deref_mut.result.now task place
-    c.push.new.self.len settled is c.deref_mut.ensures.len in
+    let all = settled_all items new (drop (length new) c.push_reserved.new.self.items) c.deref_mut.result.now task place
+    c.push_reserved.new.self.len settled is c.deref_mut.ensures.len in
     subst (λ tasks. Updates (set_of items) (set_of tasks) task true) (sym all) (record {
       here = inserted_here task place items;
       there = λ other apart. inserted_there task other place items apart;

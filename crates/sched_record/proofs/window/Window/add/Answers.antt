@@ -11,7 +11,7 @@ returns-clause-added c =
     let old = c.args.self.now in
     let event = c.args.event in
     let saying = c.args.saying in
-    let events = c.push_in.ensures ∙ ap (λ es. es ++ event ∷ []) c.in_ok-reserve.ensures.items in
+    let events = c.push_reserved.ensures.items ∙ ap (λ es. es ++ event ∷ []) c.in_ok-reserve.ensures.items in
     ap (λ es. said_beside es c.push.new.self) events
     ∙ ap (λ ss. said_beside (old.events.items ++ event ∷ []) ss) c.in_ok-push.ensures.added
     ∙ said_more old.events.items old.sayings event saying old.paired
@@ -20,7 +20,7 @@ pub invariant_of-self-2 : goal.invariant_of-self-2
 invariant_of-self-2 c =
     let old = c.args.self.now in
     let event = c.args.event in
-    let events = c.push_in.ensures ∙ ap (λ es. es ++ event ∷ []) c.in_ok-reserve.ensures.items in
+    let events = c.push_reserved.ensures.items ∙ ap (λ es. es ++ event ∷ []) c.in_ok-reserve.ensures.items in
     let n = c.len.ensures in
     let k = c.reserve.new.self.ok in
     let same = ap length c.in_ok-reserve.ensures.items in

@@ -1,9 +1,10 @@
 -- The entries of a map, as pids and rows side by side.
-use Rattle.std.proofs.Common.{◌≡◌, ℕ, zero, suc, false, List, [], ◌∷◌, length, set, nat_eq}
+use Rattle.std.proofs.Common.{◌≡◌, ℕ, zero, suc, false, List, [], ◌∷◌, ◌++◌, length, set, nat_eq}
 use Rattle.std.proofs.Common.{Option, None, Some, is_some, refl, sym, ap, ◌∙◌, true≢false}
 use Rattle.std.specs.Map.{keys_of, values_of, lookup}
-use Rattle.std.proofs.lemmas.List.{length-map}
-use Rattle.indexmap.specs.IndexMap.{set_value_at}
+use Rattle.std.proofs.lemmas.List.{length-map, map-append}
+use Rattle.indexmap.specs.IndexMap.{IndexMap, keys, values, insert_entry, set_value_at}
+use Rattle.indexmap.proofs.CallerLemmas.{insert_entry-new}
 use Rattle.indexmap.proofs.MapLemmas.{some_index}
 use Rattle.pid_table.specs.Rows.{index_in}
 
@@ -24,5 +25,16 @@ module _ {V : Type 0} where
   row_set (e ∷ es) (suc index) row = ap (λ rows. e.1 ∷ rows) (row_set es index row)
 
   -- a pid that has no index has no row
-  pub no_row : (es : List (ℕ × V)) (pid : ℕ) → index_in (keys_of es) pid ≡ None → lookup (nat_eq pid) es ≡ None
+  no_row : (es : List (ℕ × V)) (pid : ℕ) → index_in (keys_of es) pid ≡ None → lookup (nat_eq pid) es ≡ None
   no_row es pid none = none_there (lookup (nat_eq pid) es) (sym (some_index (nat_eq pid) es) ∙ ap is_some none)
+
+  module _ {S : Type 0} (m : IndexMap ℕ V S) (pid : ℕ) (row : V) (new : index_in (keys m) pid ≡ None) where
+    -- a new pid goes behind the others, with its row
+    last : insert_entry nat_eq m.entries pid row ≡ m.entries ++ (pid, row) ∷ []
+    last = insert_entry-new nat_eq m pid row (no_row m.entries pid new)
+
+    pub keys_more : keys_of (insert_entry nat_eq m.entries pid row) ≡ keys m ++ pid ∷ []
+    keys_more = ap keys_of last ∙ map-append (λ e. e.0) m.entries ((pid, row) ∷ [])
+
+    pub values_more : values_of (insert_entry nat_eq m.entries pid row) ≡ values m ++ row ∷ []
+    values_more = ap values_of last ∙ map-append (λ e. e.1) m.entries ((pid, row) ∷ [])

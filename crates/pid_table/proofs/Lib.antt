@@ -1,2 +1,3 @@
 mod Entries
 pub mod Indices
+mod Marks

@@ -3,6 +3,7 @@
 
 mod pid_hash;
 mod pid_hasher;
+mod pid_marks;
 mod pid_table;
 
 pub use pid_hasher::PidHasher;

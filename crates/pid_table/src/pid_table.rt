@@ -3,6 +3,7 @@ ghost use Rattle.std.specs.Borrow.{sem};
 ghost use Rattle.pid_table.specs.Rows.{AreSound, index_in};
 
 use crate::PidHasher;
+use crate::pid_marks::PidMarks;
 use indexmap::IndexMap;
 use std::alloc::{AllocError, Global};
 use std::marker::Model;
@@ -12,17 +13,22 @@ use std::marker::Model;
 #[derive(Debug, Drop)]
 pub struct PidTable<V> {
     map: IndexMap<u32, V, PidHasher>,
+    /// Of the pids that the map has: most that it doesn't have are told by these, without a look at its hashes.
+    marks: PidMarks,
 }
 
 impl<V> Model for PidTable<V> {
     ghost use Rattle.indexmap.specs.IndexMap.{keys, values, spare};
     ghost use Rattle.pid_table.specs.Rows.{Rows, rows_code};
+    ghost use Rattle.pid_table.specs.Marks.{AreMarked};
 
     ghost Value = { Rows V };
 
     ghost coded = { rows_code V.code };
 
     ghost view = { λ t. record { pids = keys t.map; rows = values t.map; room = spare t.map } };
+
+    ghost invariant = { λ t. AreMarked t.marks (keys t.map) };
 }
 
 impl<V> PidTable<V> {
@@ -35,6 +41,7 @@ impl<V> PidTable<V> {
     {
         Self {
             map: IndexMap::with_hasher(alloc, hasher),
+            marks: PidMarks::new(alloc),
         }
     }
 
@@ -56,8 +63,21 @@ impl<V> PidTable<V> {
     }
 
     /// Where the row of a pid is, if it has one.
-    #[inline(never)]
+    #[inline(always)]
     pub fn index_of(&self, pid: u32) -> Option<usize>
+        ensures index { result ≡ index_in self.now.pids pid }
+        ensures within { IfSome result (λ index. index < length self.now.rows) }
+        ensures sound { AreSound self.now }
+    {
+        if !self.marks.may_have(pid) {
+            return None;
+        }
+        self.index_by_hash(pid)
+    }
+
+    /// The same by the pid's hash, whether it is marked or not.
+    #[inline(never)]
+    fn index_by_hash(&self, pid: u32) -> Option<usize>
         ensures index { result ≡ index_in self.now.pids pid }
         ensures within { IfSome result (λ index. index < length self.now.rows) }
         ensures sound { AreSound self.now }
@@ -96,6 +116,10 @@ impl<V> PidTable<V> {
         ensures rows { self.new.rows ≡ self.old.rows }
         ensures sound { AreSound self.new }
     {
+        // New marks have no pid, so they are for a table that has no row.
+        if self.map.is_empty() {
+            self.marks.make_room()?;
+        }
         self.map.reserve(1)
     }
 
@@ -109,6 +133,7 @@ impl<V> PidTable<V> {
         ensures rows { self.new.rows ≡ self.old.rows ++ row ∷ [] }
         ensures sound { AreSound self.new }
     {
+        self.marks.mark(pid);
         match self.map.insert(pid, row) {
             Ok(_none) => {}
             Err(_pair) => unreachable!(),

@@ -157,7 +157,7 @@ fn try_birth(
     ensures same { HoldsUnmade result queue.old queue.new }
     ensures pids { NamesMade result step.now.deed queue.old queue.new }
 {
-    let task = queue.task_at(pid);
+    let task = queue.newcomer_at(pid);
     if let Some(fault) = first_birth_test(queue, step, pid, &task, knobs) {
         return Ok(Outcome::Failed(fault));
     }
@@ -210,7 +210,7 @@ pub(crate) fn try_arrival(
     ensures same { HoldsUnmade result queue.old queue.new }
     ensures pids { NamesMade result step.now.deed queue.old queue.new }
 {
-    let task = queue.task_at(pid);
+    let task = queue.newcomer_at(pid);
     if let Some(fault) = first_arrival_test(step, pid, &task) {
         return Ok(Outcome::Failed(fault));
     }

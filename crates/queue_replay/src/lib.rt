@@ -20,7 +20,6 @@ mod queue_tests;
 mod renice;
 mod replay;
 mod replay_state;
-mod room;
 mod row_tallies;
 mod running;
 mod state;

@@ -11,7 +11,6 @@ ghost use Rattle.queue_replay.specs.Stretches.{IsWithin, stretched};
 
 use crate::found::Found;
 use crate::lists::{LifeEvents, Tickets};
-use crate::room::push_in;
 use crate::row_tallies::RowTallies;
 use crate::stretch::Stretch;
 use cfs_model::{IDLE_PID, Memory, Way};
@@ -153,23 +152,20 @@ impl PageDraft {
             }
             Deed::Wake { .. } => {}
             Deed::Born { pid, .. } => {
-                push_in(
-                    &mut self.births,
-                    LifeEvent {
-                        line: step.line,
-                        pid,
-                    },
-                );
+                self.births.push_reserved(LifeEvent {
+                    line: step.line,
+                    pid,
+                });
                 self.tallies.add(pid, queue.pids().len());
             }
             Deed::Leave { .. } => {
                 if let Some(ticket) = ticket {
-                    push_in(&mut self.left, ticket);
+                    self.left.push_reserved(ticket);
                 }
             }
             Deed::Arrive { pid, .. } => {
                 if let Some(ticket) = ticket {
-                    push_in(&mut self.came, ticket);
+                    self.came.push_reserved(ticket);
                 }
                 self.tallies.add(pid, queue.pids().len());
             }
@@ -190,7 +186,7 @@ impl PageDraft {
             Way::Stays | Way::Sleeps => {}
             Way::Ends => {
                 if prev != IDLE_PID {
-                    push_in(&mut self.deaths, LifeEvent { line, pid: prev });
+                    self.deaths.push_reserved(LifeEvent { line, pid: prev });
                 }
             }
         }

@@ -8,7 +8,6 @@ ghost use Rattle.runqueue.specs.TaskRows.{with_pid};
 
 use crate::counting::{add_run, new_tally, pick};
 use crate::lists::Tallies;
-use crate::room::push_in;
 use crate::stretch::Stretch;
 use cfs_model::Memory;
 use replay_model::Tally;
@@ -65,7 +64,7 @@ impl RowTallies {
         ensures { self.new.list.items ≡ with_tally pid self.old.list.items }
     {
         if self.list.len() < rows {
-            push_in(&mut self.list, new_tally(pid));
+            self.list.push_reserved(new_tally(pid));
         }
     }
 

@@ -1,13 +1,14 @@
 -- A list of those who wait that falls, turned round: the same tasks, the least first.
-use Rattle.std.proofs.Common.{◌≡◌, Bool, true, true≢false, List, [], ◌∷◌, ◌++◌, reverse, sym, ap, ◌∙◌, subst}
-use Rattle.std.proofs.Common.{refl, ℕ, zero, suc, ◌<◌, ◌≤◌, length, take, drop, slice_set, slice_index_or, arith}
-use Rattle.std.proofs.lemmas.Bool.{and_from, and_parts}
+use Rattle.std.proofs.Common.{◌≡◌, inl, inr, Bool, true, false, true≢false, List, [], ◌∷◌, ◌++◌, reverse, sym, ap}
+use Rattle.std.proofs.Common.{refl, ◌∙◌, subst, ℕ, zero, suc, ◌<◌, ◌≤◌, length, take, drop, slice_set, slice_index_or}
+use Rattle.std.proofs.Common.{arith}
+use Rattle.std.proofs.lemmas.Bool.{and_from, and_parts, cases_Bool}
 use Rattle.std.specs.BTreeMap.{is_at}
 use Rattle.std.specs.BTreeSet as set
 use Rattle.std.specs.BTreeSet.{BTreeSet, contains}
 use Rattle.std.specs.List.{AllByRecursion, insert, list_all, remove}
 use Rattle.std.specs.List.Sorted.{IsStrictlySortedBy}
-use Rattle.std.specs.Ordering.{is_eq, is_gt}
+use Rattle.std.specs.Ordering.{is_eq, is_gt, is_lt}
 use Rattle.std.specs.declared.cmp.Ordering.{Ordering}
 use Rattle.std.specs.declared.cmp.Ordering.TheVariants.{Less, Equal, Greater}
 use Rattle.std.proofs.lemmas.List.{append-nil, reverse-append, take-append-le, take_all}
@@ -89,6 +90,20 @@ ascends (y ∷ tasks) f =
     subst (IsStrictlySortedBy by_runtime) (sym (reverse-append (y ∷ []) tasks))
     (one_behind (reverse tasks) y (ascends tasks h.1)
     (all_turned (λ other. by_runtime other y ≡ Less) tasks (all_before y tasks h.0)))
+
+-- who isn't less than a task has the task not above it
+pub not_above : (x y : WaitingTask) → is_lt (by_runtime y x) ≡ false → is_gt (by_runtime x y) ≡ false
+not_above x y not_less =
+    elim (cases_Bool (is_gt (by_runtime x y))) [
+      | inl above ↦ absurd (true≢false (sym (ap is_lt (before x y above)) ∙ not_less))
+      | inr other ↦ other
+    ]
+
+-- the last of a list stands behind the others
+pub set_last : (tasks : List WaitingTask) (task : WaitingTask)
+    → slice_set (tasks ++ task ∷ []) (length tasks) task ≡ insert tasks (length tasks) task
+set_last [] task = refl
+set_last (y ∷ tasks) task = ap (λ rest. y ∷ rest) (set_last tasks task)
 
 -- to change places with the one before is to stand there
 pub one_before : (tasks : List WaitingTask) (i : ℕ) (task d : WaitingTask) → i < length tasks

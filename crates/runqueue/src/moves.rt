@@ -218,22 +218,21 @@ impl Runqueue {
     {
         self.tasks.make_room()?;
         let pid = task.pid;
-        let expected = self.row_of(pid);
         match task.place {
             Place::Run => {
-                self.runner_row = put(&mut self.tasks, expected, pid, &task);
+                self.runner_row = put(&mut self.tasks, pid, &task);
                 self.recent.remember(pid, self.runner_row);
                 self.runner = Some(task);
                 Ok(())
             }
             Place::Wait => {
                 self.waiting.insert(WaitingTask { v: task.v, pid })?;
-                let row = put(&mut self.tasks, expected, pid, &task);
+                let row = put(&mut self.tasks, pid, &task);
                 self.recent.remember(pid, row);
                 Ok(())
             }
             Place::Rest => {
-                let row = put(&mut self.tasks, expected, pid, &task);
+                let row = put(&mut self.tasks, pid, &task);
                 self.recent.remember(pid, row);
                 Ok(())
             }

@@ -9,7 +9,7 @@ ghost use Rattle.runqueue.specs.TaskRows.{IsRunnerRow};
 
 use crate::runqueue::Runqueue;
 use crate::sched_entity::SchedEntity;
-use crate::task_rows::listed;
+use crate::task_rows::{listed, listed_newcomer};
 use crate::waiting_tasks::WaitingTasks;
 use cfs_model::{IDLE_PID, Way};
 
@@ -122,6 +122,22 @@ impl Runqueue {
                 }
             }
             None => listed(&self.tasks, expected, pid),
+        }
+    }
+
+    /// The same of a pid that mostly never stood here: no row is looked at where it would be expected.
+    pub fn newcomer_at(&self, pid: u32) -> Option<SchedEntity>
+        ensures { IsTaskAt (runqueue_view self.now) pid result }
+    {
+        match self.runner {
+            Some(task) => {
+                if task.pid == pid {
+                    Some(task)
+                } else {
+                    listed_newcomer(&self.tasks, pid)
+                }
+            }
+            None => listed_newcomer(&self.tasks, pid),
         }
     }
 

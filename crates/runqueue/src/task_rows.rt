@@ -19,6 +19,17 @@ pub(crate) fn listed(tasks: &TaskRows, expected: usize, pid: u32) -> Option<Sche
     }
 }
 
+/// The same of a pid that mostly has no row. A row where it would be expected would be in no cache.
+#[inline(always)]
+pub(crate) fn listed_newcomer(tasks: &TaskRows, pid: u32) -> Option<SchedEntity>
+    ensures { result ≡ task_in tasks.now pid }
+{
+    let Some(row) = tasks.index_of(pid) else {
+        return None;
+    };
+    tasks.rows()[row]
+}
+
 /// Writes over what the row at this index has.
 #[inline(always)]
 pub(crate) fn write_row(tasks: &mut TaskRows, row: usize, task: Option<SchedEntity>)
@@ -59,16 +70,16 @@ pub(crate) fn take_out(tasks: &mut TaskRows, expected: usize, pid: u32) -> Optio
     }
 }
 
-/// Puts a task into the row of a pid, which is expected at an index and made where there is none, and answers with the
-/// row's index. Takes no memory.
-pub(crate) fn put(tasks: &mut TaskRows, expected: usize, pid: u32, task: &SchedEntity) -> usize
+/// Puts a task into the row of a pid, which is made where there is none, and answers with the row's index. Takes no
+/// memory.
+pub(crate) fn put(tasks: &mut TaskRows, pid: u32, task: &SchedEntity) -> usize
     requires { 0 < tasks.old.room }
     ensures written { Writes tasks.old tasks.new pid (Some task.now) }
     ensures row { index_in tasks.new.pids pid ≡ Some result }
     ensures pids { tasks.new.pids ≡ with_pid pid tasks.old.pids }
     ensures kept { KeepsRows tasks.old.pids tasks.new.pids }
 {
-    match tasks.index_near(expected, pid) {
+    match tasks.index_of(pid) {
         Some(row) => {
             write_row(tasks, row, Some(*task));
             row

@@ -14,7 +14,7 @@ use std::collections::BTreeSet;
 use std::marker::Model;
 
 /// How many stand in the list at most.
-const MOST_LISTED: usize = 32;
+const MOST_LISTED: usize = 64;
 
 /// Those who wait at a processor, by virtual runtime, and of equal ones by pid. A few stand in a list, the least last,
 /// where one comes and goes by less work than in a tree. When they become more, all go to the tree, until that is
@@ -161,8 +161,8 @@ fn insert_listed(list: &mut Vec<WaitingTask>, task: WaitingTask) -> Result<(), M
     Ok(())
 }
 
-/// Lets the last of a list, which is this task, change places with those that are less, and says where it stands then.
-/// Whoever is woken comes near the least.
+/// Lets the last of a list, which is this task, pass those that are less, and says where it stands then. Whoever is
+/// woken comes near the least.
 #[inline(always)]
 fn settle(list: &mut [WaitingTask], task: WaitingTask) -> usize
     requires { (tasks : List Waiting) × (list.old ≡ tasks ++ task ∷ []) }
@@ -171,9 +171,9 @@ fn settle(list: &mut [WaitingTask], task: WaitingTask) -> usize
     let mut place = list.len() - 1;
     while place > 0 && list[place - 1] < task {
         list[place] = list[place - 1];
-        list[place - 1] = task;
         place -= 1;
     }
+    list[place] = task;
     place
 }
 

@@ -64,9 +64,7 @@ impl Window {
             self.sayings.pop();
             return added;
         }
-        // Taken apart: the check knows the types of what is named.
-        let Entry { line, time, act } = event;
-        self.events.push_reserved(Entry { line, time, act });
+        self.events.push_reserved(event);
         Ok(())
     }
 
@@ -133,11 +131,22 @@ impl Window {
             Said::Nothing => step.claim = None,
             Said::OneClaim(claim) => step.claim = Some(claim),
             Said::More(_) => {
-                *step = self.step_of(index, cpu);
+                self.write_whole(index, cpu, step);
                 return;
             }
         }
         write_usual(&self.events[index], cpu, step);
+    }
+
+    /// The same by a copy of the step, of whatever is said. Out of line, as there are few: room for the copy is made
+    /// here alone.
+    #[inline(never)]
+    fn write_whole(&self, index: usize, cpu: u32, step: &mut Step)
+        requires { index < length self.now.events.items }
+        ensures { (here : Claimed) → here ≡ slice_index_or (window_view self.now) index here
+            → step.new ≡ step_here cpu here }
+    {
+        *step = self.step_of(index, cpu);
     }
 
     /// The steps of the events that touch a processor, in place of what the list held.
@@ -225,10 +234,10 @@ fn add_index(indices: &mut Indices, act: Act, index: usize) -> Result<(), Memory
     ensures kept { OnErr result ((cpu : ℕ) → cpu < most_processors
         → indices_at indices.new cpu ≡ indices_at indices.old cpu) }
 {
-    match u32::try_from(index) {
-        Ok(index) => indices.add(act, index),
-        Err(_) => Ok(()),
+    if index > u32::MAX as usize {
+        return Ok(());
     }
+    indices.add(act, index as u32)
 }
 
 /// Whether an event touches a processor.

@@ -20,20 +20,20 @@ returns-in-Some-clause-tried c knobs =
     fails knobs c.args.cpu part step deed step.claim (arrival_tests part deed step.claim)
     (arrival_row knobs c.args.cpu part c.args.pid c.args.nice c.requires.0 c.args.policy step.claim) c.requires.1 refl
     part c.in-Some.fault c.in-Some.ensures.line
-    (c.in-Some.ensures.first part c.args.nice c.requires.0 c.args.policy c.task_at-task.ensures)
+    (c.in-Some.ensures.first part c.args.nice c.requires.0 c.args.policy c.newcomer_at-task.ensures)
 
 pub add-requires-clause-apart : goal.add-requires-clause-apart
 add-requires-clause-apart c =
     let part = runqueue_view c.args.queue.now in
     ap part.tasks c.claimed_task.ensures.pid
     ∙ is_apart part c.args.pid (c.in_default.ensures.first part c.args.nice c.requires.0 c.args.policy
-    c.task_at-task.ensures).0
+    c.newcomer_at-task.ensures).0
 
 pub unreachable-requires : goal.unreachable-requires
 unreachable-requires c =
     let part = runqueue_view c.args.queue.now in
     arrival_claimed part c.args.pid c.args.nice c.requires.0 c.args.policy c.args.step.now.claim
-    (c.in_default.ensures.first part c.args.nice c.requires.0 c.args.policy c.task_at-task.ensures).1.0 c.in-None.is
+    (c.in_default.ensures.first part c.args.nice c.requires.0 c.args.policy c.newcomer_at-task.ensures).1.0 c.in-None.is
 
 pub returns-clause-tried : goal.returns-clause-tried
 returns-clause-tried c knobs =
@@ -47,7 +47,7 @@ returns-clause-tried c knobs =
     let task = c.claimed_task in
     passes knobs c.args.cpu part step deed step.claim (arrival_tests part deed step.claim)
     (arrival_row knobs c.args.cpu part pid nice c.requires.0 policy step.claim) c.requires.1 refl _ _
-    (c.in_default.ensures.first part nice c.requires.0 policy c.task_at-task.ensures)
+    (c.in_default.ensures.first part nice c.requires.0 policy c.newcomer_at-task.ensures)
     (c.in_ok-add-in-Some-claim.ensures.part
     ∙ ap (λ p. with_entity part p (Some (entity_of task.result))) task.ensures.pid
     ∙ ap (λ (s : Entity). with_entity part pid (Some s)) task.ensures.entity

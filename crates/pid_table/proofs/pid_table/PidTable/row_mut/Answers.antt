@@ -1,6 +1,7 @@
-use Rattle.std.proofs.Common.{refl}
+use Rattle.std.proofs.Common.{refl, sym, subst}
 use Rattle.std.specs.HashMap.{spare}
 use Rattle.indexmap.proofs.CallerLemmas.{keys-with_value_at}
+use Rattle.pid_table.specs.Marks.{AreMarked}
 use Rattle.pid_table.proofs.Entries.{row_set}
 use Rattle.pid_table.proofs.pid_table.PidTable.row_mut.Goals as goal
 
@@ -19,3 +20,8 @@ returns g c =
       ),
       record { writes_back = tt; value = c.index_mut.ensures.value },
     )
+
+pub invariant_of-self-lent : goal.invariant_of-self-lent
+invariant_of-self-lent g c = λ w.
+    let table = c.self.inside in
+    subst (AreMarked table.marks) (sym (keys-with_value_at table.map c.args.index w)) c.self.invariant

@@ -6,7 +6,7 @@ pub returns-then-len-rows : goal.returns-then-len-rows
 returns-then-len-rows c =
     let items = c.args.self.now.list.items in
     let more : length items < c.args.rows = omega arith in
-    c.push_in.ensures ∙ ap (λ t. items ++ t ∷ []) c.new_tally.ensures
+    c.push_reserved.ensures.items ∙ ap (λ t. items ++ t ∷ []) c.new_tally.ensures
     ∙ tally_added items c.args.pid c.args.rows c.requires.rows more
 
 pub returns-else-len-rows : goal.returns-else-len-rows

@@ -19,8 +19,8 @@ said_at-requires c =
     let h = c.requires in
     omega (arith, n, p, h)
 
-pub step_of-requires : goal.step_of-requires
-step_of-requires c =
+pub write_whole-requires : goal.write_whole-requires
+write_whole-requires c =
     let self = c.args.self.now in
     let n = said_length self.events.items self.sayings self.paired in
     let h = c.requires in

@@ -11,7 +11,6 @@ use crate::shared_book::{CrewLedger, SharedBook};
 use crate::underway::Underway;
 use crate::{AuditorFault, Gate};
 use cfs_model::{Knobs, Memory};
-use pid_table::PidHasher;
 use queue_replay::Tag;
 use sched_record::Record;
 use std::alloc::Global;
@@ -69,7 +68,6 @@ impl<L: CrewLedger> Member<L> {
         cpu: u32,
         knobs: Knobs,
         gate: &G,
-        hasher: PidHasher,
     )
         requires cpu { cpu < (record_view joined.now).cpus }
         requires joined { L.joined ≡ record_view joined.now }
@@ -81,7 +79,7 @@ impl<L: CrewLedger> Member<L> {
         ensures ended { self.new.underway ≡ None → IsBroughtBack (cut_of (record_view joined.now) cpu) knobs
             self.new.posted self.new.refused self.new.memory }
     {
-        match deal_and_begin(alloc, joined, cpu, knobs, gate, hasher) {
+        match deal_and_begin(alloc, joined, cpu, knobs, gate) {
             Ok(begun) if begun.is_going() => self.underway = Some(begun),
             Ok(begun) => self.finish(rt, shared, begun, gate),
             Err(Memory) => self.memory = true,
@@ -168,12 +166,11 @@ fn deal_and_begin<G: Gate>(
     cpu: u32,
     knobs: Knobs,
     gate: &G,
-    hasher: PidHasher,
 ) -> Result<Underway, Memory>
     requires { cpu < (record_view joined.now).cpus }
     ensures own { IfOk result (λ begun. IsOwnReplay knobs (record_view joined.now) begun.replay) }
     ensures dealt { IfOk result (λ begun. begun.replay.stream ≡ cut_of (record_view joined.now) cpu) }
 {
     let stream = joined.deal(cpu)?;
-    Underway::begin(alloc, gate, stream, knobs, STRETCH, hasher)
+    Underway::begin(alloc, gate, stream, knobs, STRETCH)
 }

@@ -6,7 +6,6 @@ use crate::Gate;
 use crate::member::Member;
 use crate::shared_book::{CrewLedger, SharedBook};
 use cfs_model::{Knobs, Memory};
-use pid_table::PidHasher;
 use sched_record::Record;
 use std::alloc::Global;
 use std::sync::ledger::Share;
@@ -44,7 +43,6 @@ pub(crate) fn begin_all<L: CrewLedger + Send + Sync, R: Threads + Wait + Sync, G
     joined: &Record,
     knobs: Knobs,
     gate: &G,
-    hasher: PidHasher,
 )
     requires one_each { length members.old ≡ (record_view joined.now).cpus }
     requires free { All (λ member. member.posted ≡ None) members.old }
@@ -60,7 +58,7 @@ pub(crate) fn begin_all<L: CrewLedger + Send + Sync, R: Threads + Wait + Sync, G
         &|cpu: usize, member: &mut Member<L>|
             requires { (cpu < (record_view joined.now).cpus) × (member.old.posted ≡ None) × (member.old.underway ≡ None)
                 × (L.joined ≡ record_view joined.now) × (L.knobs ≡ knobs) }
-        { member.begin(rt, alloc, shared, joined, cpu as u32, knobs, gate, hasher) },
+        { member.begin(rt, alloc, shared, joined, cpu as u32, knobs, gate) },
     );
 }
 

@@ -12,18 +12,16 @@ use crate::members::{begin_all, end_all, gather, members_of};
 use crate::shared_book::{CrewLedger, SharedBook};
 use crate::{Gate, Gathered};
 use cfs_model::{Knobs, Memory};
-use pid_table::PidHasher;
 use sched_record::Record;
 use std::alloc::Global;
 use std::marker::Brand;
-use std::random::RandomSource;
 use std::sync::ledger::Blank;
 use std::sync::{Mutex, Wait};
 use std::thread::Threads;
 use ticket_book::{Book, Closed, LeastSettings, one_verdict};
 
 /// The audit of a record by a crew: its auditors' pages in one book, which is then closed.
-pub fn audit<R: RandomSource + Threads + Wait + Sync, G: Gate>(
+pub fn audit<R: Threads + Wait + Sync, G: Gate>(
     rt: &R,
     alloc: Global,
     joined: &Record,
@@ -42,7 +40,7 @@ pub fn audit<R: RandomSource + Threads + Wait + Sync, G: Gate>(
 }
 
 /// The least settings of a record by a crew at the greatest: its auditors' pages in one book, which is then closed.
-pub fn least_settings<R: RandomSource + Threads + Wait + Sync, G: Gate>(
+pub fn least_settings<R: Threads + Wait + Sync, G: Gate>(
     rt: &R,
     alloc: Global,
     joined: &Record,
@@ -58,8 +56,8 @@ pub fn least_settings<R: RandomSource + Threads + Wait + Sync, G: Gate>(
 /// Audits each processor of a record in a thread of its own, all at once, and gathers their pages in one book. No
 /// auditor makes a second stretch before each has made its first: else one whose stream is dealt early would replay
 /// most of it before another could tell of a fault near the beginning. Where a thread can't be started its auditor runs
-/// in another, after that one's own. Pids are hashed by random keys.
-pub fn crew<R: RandomSource + Threads + Wait + Sync, G: Gate>(
+/// in another, after that one's own.
+pub fn crew<R: Threads + Wait + Sync, G: Gate>(
     rt: &R,
     alloc: Global,
     joined: &Record,
@@ -75,7 +73,7 @@ pub fn crew<R: RandomSource + Threads + Wait + Sync, G: Gate>(
 }
 
 /// The crew, whose accepted posts this ledger counts.
-fn crew_of<L: CrewLedger + Send + Sync, R: RandomSource + Threads + Wait + Sync, G: Gate>(
+fn crew_of<L: CrewLedger + Send + Sync, R: Threads + Wait + Sync, G: Gate>(
     rt: &R,
     alloc: Global,
     blank: Blank,
@@ -93,10 +91,9 @@ fn crew_of<L: CrewLedger + Send + Sync, R: RandomSource + Threads + Wait + Sync,
     ensures own { IfOk result (λ gathered. AreOwn L.knobs L.joined (book_view gathered.book)) }
 {
     let cpus = joined.cpus();
-    let hasher = PidHasher::random(rt);
     let (posts, mut all) = blank.open::<L>();
     let mut members = members_of(alloc, &mut all, cpus)?;
-    let shared = Mutex::new(SharedBook::new(Book::with_hasher(alloc, cpus, hasher)?, posts));
+    let shared = Mutex::new(SharedBook::new(Book::new(alloc, cpus)?, posts));
     begin_all(
         rt,
         alloc,
@@ -105,7 +102,6 @@ fn crew_of<L: CrewLedger + Send + Sync, R: RandomSource + Threads + Wait + Sync,
         joined,
         knobs,
         gate,
-        hasher,
     );
     end_all(rt, members.as_mut_slice(), &shared, gate);
     let posted = gather(members, &mut all)?;

@@ -10,7 +10,6 @@ ghost use Rattle.sched_record.specs.Stream.{stream_view};
 use crate::reserved_shelf::ReservedShelf;
 use crate::{AuditorFault, Gate};
 use cfs_model::{Knobs, Memory};
-use pid_table::PidHasher;
 use queue_replay::{Replay, State};
 use sched_record::Stream;
 use std::alloc::Global;
@@ -34,14 +33,13 @@ impl Underway {
         stream: Stream,
         knobs: Knobs,
         stretch: u64,
-        hasher: PidHasher,
     ) -> Result<Underway, Memory>
         requires { 0 < stretch }
         ensures stream { IfOk result (λ begun. begun.replay.stream ≡ stream_view stream) }
         ensures knobs { IfOk result (λ begun. begun.replay.knobs ≡ knobs) }
     {
         let cpu = stream.cpu();
-        let mut replay = before_steps(alloc, stream, knobs, hasher)?;
+        let mut replay = before_steps(alloc, stream, knobs)?;
         gate.enter(cpu);
         let state = replay.go_on(stretch)?;
         gate.enter(cpu);
@@ -87,16 +85,11 @@ impl Underway {
 }
 
 /// The replay of a stream before its first step.
-fn before_steps(
-    alloc: Global,
-    stream: Stream,
-    knobs: Knobs,
-    hasher: PidHasher,
-) -> Result<Replay, Memory>
+fn before_steps(alloc: Global, stream: Stream, knobs: Knobs) -> Result<Replay, Memory>
     ensures stream { IfOk result (λ replay. replay.stream ≡ stream_view stream) }
     ensures knobs { IfOk result (λ replay. replay.knobs ≡ knobs) }
 {
-    match Replay::with_hasher(alloc, stream, knobs, hasher) {
+    match Replay::new(alloc, stream, knobs) {
         Ok(replay) => Ok(replay),
         Err((_stream, memory)) => Err(memory),
     }

@@ -6,14 +6,15 @@ use std::io;
 use std::io::Read;
 use std::mem::swap;
 
-/// The last reads of a text. While the latest is made, the one before it is joined, and the one before that is audited.
-/// A line of that one may begin in one more, so there are four.
+/// The last reads of a text. While the latest is made, the lines of the one before it are read, the one before that is
+/// joined, and the one before that is audited. A line of that one may begin in one more, so there are five.
 #[derive(Drop)]
 pub(crate) struct KeptReads {
     first: KeptRead,
     second: KeptRead,
     third: KeptRead,
     fourth: KeptRead,
+    fifth: KeptRead,
 }
 
 impl KeptReads {
@@ -24,6 +25,7 @@ impl KeptReads {
             second: KeptRead::empty(alloc),
             third: KeptRead::empty(alloc),
             fourth: KeptRead::empty(alloc),
+            fifth: KeptRead::empty(alloc),
         }
     }
 
@@ -32,7 +34,8 @@ impl KeptReads {
         swap(&mut self.first, &mut self.second);
         swap(&mut self.second, &mut self.third);
         swap(&mut self.third, &mut self.fourth);
-        self.fourth.take(begins, bytes)
+        swap(&mut self.fourth, &mut self.fifth);
+        self.fifth.take(begins, bytes)
     }
 
     /// Keeps the same reads as another one.
@@ -40,7 +43,8 @@ impl KeptReads {
         self.first.copy_from(&other.first)?;
         self.second.copy_from(&other.second)?;
         self.third.copy_from(&other.third)?;
-        self.fourth.copy_from(&other.fourth)
+        self.fourth.copy_from(&other.fourth)?;
+        self.fifth.copy_from(&other.fifth)
     }
 
     /// Whether they begin before the line of this number, from 1.
@@ -54,7 +58,8 @@ impl KeptReads {
         let text = first
             .chain(self.second.bytes.as_slice())
             .chain(self.third.bytes.as_slice())
-            .chain(self.fourth.bytes.as_slice());
+            .chain(self.fourth.bytes.as_slice())
+            .chain(self.fifth.bytes.as_slice());
         line_of(alloc, text, number.saturating_sub(self.first.begins.lines))
     }
 }

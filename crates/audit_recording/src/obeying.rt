@@ -11,7 +11,6 @@ use given_texts::{StandardInput, read_input};
 use recording_audit::{Asked, CauseWords, NotAudited, Part, Tally, audit_recording, report};
 use std::alloc::Global;
 use std::io::{ErrorKind, Write};
-use std::random::RandomSource;
 use std::rt::{Env, Files, Stdin};
 use std::sync::Wait;
 use std::thread::Threads;
@@ -19,9 +18,12 @@ use std::time::Clock;
 use std::{env, io};
 
 /// Does what the command line says. Where `tells` is set, standard error is told how far it is.
-pub fn obey<
-    R: Env + Files + Clock + Print + Eprint + RandomSource + AllocGlobal + Threads + Wait + Sync,
->(rt: &R, alloc: Global, stdin: Stdin, tells: bool) -> Ending {
+pub fn obey<R: Env + Files + Clock + Print + Eprint + AllocGlobal + Threads + Wait + Sync>(
+    rt: &R,
+    alloc: Global,
+    stdin: Stdin,
+    tells: bool,
+) -> Ending {
     let words = match words_of(rt, alloc) {
         Ok(words) => words,
         Err(error) if error.kind() == ErrorKind::OutOfMemory => return Ending::Memory,
@@ -44,7 +46,7 @@ fn words_of<R: Env + AllocGlobal>(rt: &R, alloc: Global) -> io::Result<Vec<Strin
 }
 
 /// Reads what is asked of, audits it, and writes the report.
-fn audit<R: Files + Clock + Print + Eprint + RandomSource + AllocGlobal + Threads + Wait + Sync>(
+fn audit<R: Files + Clock + Print + Eprint + AllocGlobal + Threads + Wait + Sync>(
     rt: &R,
     alloc: Global,
     stdin: Stdin,
@@ -93,7 +95,7 @@ fn read<R: Files>(
 }
 
 /// The parts of a recording. Where it is refused, that is printed.
-fn parts_of<'a, R: Clock + Print + Eprint + RandomSource + Threads + Wait + Sync>(
+fn parts_of<'a, R: Clock + Print + Eprint + Threads + Wait + Sync>(
     rt: &R,
     alloc: Global,
     text: &'a [u8],

@@ -6,7 +6,6 @@ use crate::verdict::push_counts;
 use crate::{Finding, Judgement, Streamed};
 use audit_input::{Cause, Source};
 use cfs_model::{Knobs, Memory};
-use pid_table::PidHasher;
 use replay_model::FirstFault;
 use sched_record::Record;
 use std::alloc::{AllocError, Global};
@@ -47,7 +46,6 @@ impl Judgement for Counted {
         finding: Finding,
         _joined: &Record,
         _knobs: Knobs,
-        _hasher: PidHasher,
     ) -> Result<Counted, Memory> {
         Ok(Counted::of_stream(finding))
     }

@@ -11,7 +11,6 @@ ghost use Rattle.waiting_times.specs.Waits.{first_state, said_events};
 use crate::Finding;
 use audit_input::{Cause, Source};
 use cfs_model::{Knobs, Memory};
-use pid_table::PidHasher;
 use replay_model::FirstFault;
 use sched_record::Record;
 use std::alloc::{AllocError, Global};
@@ -44,13 +43,12 @@ pub trait Judgement: Drop {
     fn is_least() -> bool
         ensures { result ≡ is_least };
 
-    /// That of a record, by what is found of it. Where tasks are sought by their pids, it is by these keys.
+    /// That of a record, by what is found of it.
     fn of_finding(
         alloc: Global,
         finding: Finding,
         joined: &Record,
         knobs: Knobs,
-        hasher: PidHasher,
     ) -> Result<Self, Memory>
         requires { IsFinding is_least knobs (record_view joined.now) finding }
         ensures { IfOk result (is_of knobs (record_view joined.now)) };

@@ -7,7 +7,6 @@ use crate::{Finding, Judgement, Streamed};
 use audit_input::{Cause, Source};
 use cfs_model::{Knobs, Memory, Setting};
 use least_places::{LeastFigures, Place, Places};
-use pid_table::PidHasher;
 use replay_model::FirstFault;
 use sched_record::Record;
 use std::alloc::{AllocError, Global};
@@ -62,7 +61,6 @@ impl Judgement for LeastFigures {
         finding: Finding,
         _joined: &Record,
         _knobs: Knobs,
-        _hasher: PidHasher,
     ) -> Result<LeastFigures, Memory> {
         Ok(LeastFigures::of_stream(finding))
     }

@@ -8,7 +8,6 @@ use crate::{Finding, Judgement, Streamed};
 use audit_input::{Cause, Source};
 use cfs_model::{Knobs, Memory};
 use itoa::{Buffer, Integer};
-use pid_table::PidHasher;
 use replay_model::{FirstFault, Tally};
 use sched_record::Record;
 use std::alloc::{AllocError, Global};
@@ -51,7 +50,6 @@ impl Judgement for Verdict {
         finding: Finding,
         _joined: &Record,
         _knobs: Knobs,
-        _hasher: PidHasher,
     ) -> Result<Verdict, Memory> {
         Ok(Verdict::of_stream(finding))
     }

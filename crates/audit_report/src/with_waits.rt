@@ -9,7 +9,6 @@ use crate::wait_lines::push_waits;
 use crate::{Finding, Judgement};
 use audit_input::{Cause, Source};
 use cfs_model::{Knobs, Memory};
-use pid_table::PidHasher;
 use plain_list::PlainList;
 use replay_model::FirstFault;
 use sched_record::Record;
@@ -54,11 +53,10 @@ impl<J: Judgement> Judgement for WithWaits<J> {
         finding: Finding,
         joined: &Record,
         knobs: Knobs,
-        hasher: PidHasher,
     ) -> Result<WithWaits<J>, Memory> {
-        let judged = J::of_finding(alloc, finding, joined, knobs, hasher)?;
+        let judged = J::of_finding(alloc, finding, joined, knobs)?;
         J::runs();
-        let waits = waits_beside(alloc, judged.fault(), joined, hasher)?;
+        let waits = waits_beside(alloc, judged.fault(), joined)?;
         Ok(WithWaits { judged, waits })
     }
 
@@ -93,7 +91,6 @@ fn waits_beside(
     alloc: Global,
     fault: Option<FirstFault>,
     joined: &Record,
-    hasher: PidHasher,
 ) -> Result<Option<PlainList<TaskWaits>>, Memory>
     ensures fault { IsSome fault → IfOk result (λ waits. waits ≡ None) }
     ensures run { fault ≡ None → (knobs : KnobsView)
@@ -104,7 +101,7 @@ fn waits_beside(
     match fault {
         Some(_) => Ok(None),
         None => {
-            let waits = waits_of(alloc, joined, hasher)?;
+            let waits = waits_of(alloc, joined)?;
             Ok(Some(PlainList::from_vec(waits)))
         }
     }

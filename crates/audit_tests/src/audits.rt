@@ -12,7 +12,6 @@ use sched_audit::{
 };
 use std::alloc::{AllocError, Global};
 use std::io::ErrorKind;
-use std::random::RandomSource;
 use std::sync::Wait;
 use std::test::Fail;
 use std::thread::Threads;
@@ -169,12 +168,7 @@ fn reports_are_lines(rt: HostRuntime) -> Result<(), Fail> {
 }
 
 /// Whether the audit of two texts comes to a run.
-fn is_run<R: RandomSource + Threads + Wait + Sync>(
-    rt: &R,
-    alloc: Global,
-    trace: &[u8],
-    companion: &[u8],
-) -> bool {
+fn is_run<R: Threads + Wait + Sync>(rt: &R, alloc: Global, trace: &[u8], companion: &[u8]) -> bool {
     let knobs = Knobs::standard();
     let verdict = audit_texts(rt, alloc, trace, companion, knobs, &OpenGate);
     matches!(verdict, Ok(Verdict::Run(_)))

@@ -7,7 +7,6 @@ use sched_audit::{Fault, Status};
 use std::alloc::Global;
 use std::io::ErrorKind;
 use std::process::Abort;
-use std::random::RandomSource;
 use std::test::Fail;
 use std::thread::Threads;
 
@@ -95,11 +94,7 @@ fn companion_of(alloc: Global, claims: &[u8]) -> Result<Vec<u8>, Fail> {
 }
 
 /// Ends the test where something else is answered or reported of a row, in blocks and windows of some size.
-fn wants_row<R: Abort + RandomSource + Threads + Sync>(
-    rt: &R,
-    alloc: Global,
-    row: &Row,
-) -> Result<(), Fail> {
+fn wants_row<R: Abort + Threads + Sync>(rt: &R, alloc: Global, row: &Row) -> Result<(), Fail> {
     let companion = companion_of(alloc, row.claims)?;
     for sizes in &SIZES {
         let ends = (whole(row.trace), whole(&companion));
@@ -120,7 +115,7 @@ fn blocks_and_windows_of_any_size_report_the_same(rt: HostRuntime) -> Result<(),
 
 /// What is answered where the trace fails at one read and the companion at another, from 1 (0 for none), and how many
 /// bytes were written.
-fn answer_of_failing<R: RandomSource + Threads + Sync>(
+fn answer_of_failing<R: Threads + Sync>(
     rt: &R,
     alloc: Global,
     fails_at: (u64, u64),

@@ -8,7 +8,6 @@ use json_audit::{AsJson, NameTold};
 use sched_audit::{Fault, LeastFigures, Outcome, SinkOf, Status, Verdict, WithWaits, write_report};
 use serde_json::Value;
 use std::alloc::Global;
-use std::random::RandomSource;
 use std::sync::Wait;
 use std::test::Fail;
 use std::thread::Threads;
@@ -225,7 +224,7 @@ static ROWS: [Row; 4] = [
 ];
 
 /// What is answered and written of a row.
-fn row_ran<R: RandomSource + Threads + Wait + Sync>(
+fn row_ran<R: Threads + Wait + Sync>(
     rt: &R,
     alloc: Global,
     row: &Row,

@@ -9,7 +9,6 @@ use fault_explainer::refusal_words;
 use sched_audit::{Cause, OpenGate, Refused, Source, Status, audit_texts};
 use std::alloc::Global;
 use std::process::Abort;
-use std::random::RandomSource;
 use std::sync::Wait;
 use std::test::Fail;
 use std::thread::Threads;
@@ -42,16 +41,12 @@ fn text_of(alloc: Global, lines: &[(&[u8], u32)]) -> Result<Vec<u8>, Fail> {
 }
 
 /// What `audit_texts` refuses.
-fn refused_by<R: RandomSource + Threads + Wait + Sync>(
-    rt: &R,
-    alloc: Global,
-    trace: &[u8],
-) -> Option<Refused> {
+fn refused_by<R: Threads + Wait + Sync>(rt: &R, alloc: Global, trace: &[u8]) -> Option<Refused> {
     audit_texts(rt, alloc, trace, COMPANION, Knobs::standard(), &OpenGate).err()
 }
 
 /// Ends the test where a trace of these lines isn't refused for this by both calls.
-fn wants_refusal<R: Abort + RandomSource + Threads + Wait + Sync>(
+fn wants_refusal<R: Abort + Threads + Wait + Sync>(
     rt: &R,
     alloc: Global,
     lines: &[(&[u8], u32)],

@@ -10,7 +10,6 @@ use sched_audit::{
 };
 use std::alloc::Global;
 use std::process::Abort;
-use std::random::RandomSource;
 use std::sync::Wait;
 use std::thread::Threads;
 
@@ -18,7 +17,7 @@ use std::thread::Threads;
 pub type Ran = (Result<Status, Fault>, Vec<u8>, [u64; 3]);
 
 /// The run of two texts, by the standard settings.
-pub fn ran<R: RandomSource + Threads + Wait + Sync>(
+pub fn ran<R: Threads + Wait + Sync>(
     rt: &R,
     alloc: Global,
     trace: Pieces<'_>,
@@ -40,7 +39,7 @@ pub fn ran<R: RandomSource + Threads + Wait + Sync>(
 }
 
 /// What is answered and written of two inputs that are read at once, in blocks and windows of these sizes.
-pub fn ran_in_blocks<R: RandomSource + Threads + Sync>(
+pub fn ran_in_blocks<R: Threads + Sync>(
     rt: &R,
     alloc: Global,
     trace: Pieces<'_>,
@@ -62,7 +61,7 @@ pub fn ran_in_blocks<R: RandomSource + Threads + Sync>(
 }
 
 /// Ends the test where the run of two texts answers or writes something else, and says how often each end was called.
-pub fn wants_run<R: Abort + RandomSource + Threads + Wait + Sync>(
+pub fn wants_run<R: Abort + Threads + Wait + Sync>(
     rt: &R,
     alloc: Global,
     ends: (Pieces<'_>, Pieces<'_>, Room),
@@ -76,7 +75,7 @@ pub fn wants_run<R: Abort + RandomSource + Threads + Wait + Sync>(
 }
 
 /// What is answered and written of the least settings of two texts.
-pub fn least_ran<R: RandomSource + Threads + Wait + Sync>(
+pub fn least_ran<R: Threads + Wait + Sync>(
     rt: &R,
     alloc: Global,
     trace: Pieces<'_>,
@@ -96,7 +95,7 @@ pub fn least_ran<R: RandomSource + Threads + Wait + Sync>(
 }
 
 /// The same of two inputs that are read at once, in blocks and windows of these sizes.
-pub fn least_ran_in_blocks<R: RandomSource + Threads + Sync>(
+pub fn least_ran_in_blocks<R: Threads + Sync>(
     rt: &R,
     alloc: Global,
     trace: Pieces<'_>,
@@ -117,7 +116,7 @@ pub fn least_ran_in_blocks<R: RandomSource + Threads + Sync>(
 }
 
 /// What is answered and written of two texts as JSON, by the standard settings.
-pub fn object_ran<J: Told, R: RandomSource + Threads + Wait + Sync>(
+pub fn object_ran<J: Told, R: Threads + Wait + Sync>(
     rt: &R,
     alloc: Global,
     trace: Pieces<'_>,

@@ -8,31 +8,29 @@ use crate::strategy::{STRATEGIES, Strategy};
 use crate::wishes::Wishes;
 use crate::writing::text_of;
 use cfs_model::{Entry, Memory};
-use pid_table::PidHasher;
 use std::alloc::Global;
 use std::thread::{Threads, join};
 
 /// The strategy that mostly needs the least granularity.
 const MOSTLY_BEST: Strategy = Strategy::Picked;
 
-/// The companion that the kernel's own values tell, or that the strategies find. Pids are hashed by these keys.
+/// The companion that the kernel's own values tell, or that the strategies find.
 pub fn guessed(
     rt: &(impl Threads + Sync),
     alloc: Global,
     events: &[Entry],
     values: KernelValues,
     wishes: &Wishes,
-    hasher: PidHasher,
 ) -> Result<Made, Memory> {
     if values.prints.is_empty() {
-        let outset = Outset::of(alloc, events, hasher)?;
+        let outset = Outset::of(alloc, events)?;
         let draft = best_of(alloc, &outset, events, wishes)?;
         return made_of(rt, alloc, &outset, &draft);
     }
     let prints = values.prints.as_slice();
     let (outset, placed) = join(
         rt,
-        || Outset::of(alloc, events, hasher),
+        || Outset::of(alloc, events),
         || Placements::of(alloc, prints, events),
     );
     let (outset, (placements, first)) = (outset?, placed?);

@@ -80,12 +80,8 @@ impl Machine {
         known: &Known,
     ) -> Result<(), Memory> {
         for cpu in 0..outset.cpus {
-            self.processors.push(Processor::new(
-                alloc,
-                outset.hasher,
-                start.floor(cpu),
-                outset.start,
-            ))?;
+            self.processors
+                .push(Processor::new(alloc, start.floor(cpu), outset.start))?;
         }
         for task in start.tasks.as_slice() {
             let unsettled = self.unsettled_at_start(task, outset.start, known)?;

@@ -2,7 +2,6 @@ use crate::forecast::Forecast;
 use crate::opening::tasks_at_start;
 use crate::touching::processors_of;
 use cfs_model::{Entry, Memory, Task};
-use pid_table::PidHasher;
 use std::alloc::Global;
 
 /// What is known of a trace before a strategy is followed.
@@ -14,19 +13,16 @@ pub(crate) struct Outset {
     /// By rising pid, each at virtual runtime 0.
     pub tasks: Vec<Task>,
     pub forecast: Forecast,
-    /// The keys by which pids are hashed.
-    pub hasher: PidHasher,
 }
 
 impl Outset {
     /// By the events of the trace.
-    pub(crate) fn of(alloc: Global, events: &[Entry], hasher: PidHasher) -> Result<Outset, Memory> {
+    pub(crate) fn of(alloc: Global, events: &[Entry]) -> Result<Outset, Memory> {
         Ok(Outset {
             cpus: processors_of(events),
             start: events.first().map_or(0, |event| event.time),
             tasks: tasks_at_start(alloc, events)?,
             forecast: Forecast::of(alloc, events)?,
-            hasher,
         })
     }
 }

@@ -1,6 +1,5 @@
 use crate::task_at::TaskAt;
 use cfs_model::{Claim, IDLE_PID, Memory, Place, Task, Way};
-use pid_table::PidHasher;
 use runqueue::{Runqueue, SchedEntity};
 use std::alloc::Global;
 
@@ -16,9 +15,9 @@ pub(crate) struct Processor {
 
 impl Processor {
     /// Nobody stands there.
-    pub(crate) fn new(alloc: Global, hasher: PidHasher, floor: i64, start: u64) -> Processor {
+    pub(crate) fn new(alloc: Global, floor: i64, start: u64) -> Processor {
         Processor {
-            queue: Runqueue::empty(alloc, hasher, floor, start),
+            queue: Runqueue::empty(alloc, floor, start),
             free_line: 0,
             since: None,
         }

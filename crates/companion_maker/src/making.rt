@@ -9,14 +9,12 @@ use crate::plain::plain_text;
 use cfs_model::{MOST_PROCESSORS, Memory};
 use companion_file::{CompanionFault, read_companion_wide};
 use companion_guess::{KernelValues, Made, Wishes, guessed};
-use pid_table::PidHasher;
 use sched_record::{Trace, join, outside_line};
 use std::alloc::Global;
 use std::thread::Threads;
 
 /// A companion for a trace of which these values are known. What was found is read back and joined with the trace;
-/// where that should fail, the companion is the plain one, which goes together with every trace. Pids are hashed by
-/// these keys.
+/// where that should fail, the companion is the plain one, which goes together with every trace.
 #[tactic(auto, using(sched_record::proofs::OneRecord::none_outside))]
 pub fn companion_of_trace(
     rt: &(impl Threads + Sync),
@@ -24,7 +22,6 @@ pub fn companion_of_trace(
     trace: Trace,
     values: KernelValues,
     wishes: &Wishes,
-    hasher: PidHasher,
 ) -> Result<Made, NotMade>
     // What is made is a companion, and joins with the trace.
     ensures fits { IfOk result (λ made. ReadsAndJoins (trace_view trace) made.text.items) }
@@ -38,7 +35,7 @@ pub fn companion_of_trace(
             line: u64::from(line),
         });
     }
-    let made = guessed(rt, alloc, trace.events(), values, wishes, hasher)?;
+    let made = guessed(rt, alloc, trace.events(), values, wishes)?;
     if go_together(rt, alloc, trace, made.text.as_slice())? {
         Ok(made)
     } else {

@@ -8,19 +8,17 @@ use crate::found::found_bound;
 use crate::moment::{idled_before, moment_at, moment_before};
 use crate::moved::moved_bound;
 use cfs_model::{Kind, Knobs, Memory};
-use pid_table::PidHasher;
 use replay_model::FirstFault;
 use sched_record::Record;
 use std::alloc::Global;
 
 /// The numbers that the rule of a fault compares; none where it compares none. The fault is the record's first at these
-/// settings. Pids are hashed by these keys.
+/// settings.
 pub fn bound_of(
     alloc: Global,
     joined: &Record,
     knobs: Knobs,
     fault: FirstFault,
-    hasher: PidHasher,
 ) -> Result<Option<Bound>, Memory>
     ensures { IfOk result (λ found. IfSome found (λ bound. AreNumbers knobs (record_view joined.now) fault.kind fault
         bound.value bound.limit)) }
@@ -32,17 +30,17 @@ pub fn bound_of(
         kind,
     } = fault;
     match kind {
-        Kind::IdleTooLong => idling_bound(alloc, joined, knobs, cpu, line, hasher),
-        Kind::TicketUnequal => moved_bound(alloc, joined, knobs, cpu, line, pid, hasher),
-        Kind::Range => match moment_before(alloc, joined, knobs, cpu, line, hasher)? {
+        Kind::IdleTooLong => idling_bound(alloc, joined, knobs, cpu, line),
+        Kind::TicketUnequal => moved_bound(alloc, joined, knobs, cpu, line, pid),
+        Kind::Range => match moment_before(alloc, joined, knobs, cpu, line)? {
             Some(moment) => Ok(range_bound(&moment, pid)),
             None => Ok(None),
         },
-        Kind::WrongCharge => match moment_before(alloc, joined, knobs, cpu, line, hasher)? {
+        Kind::WrongCharge => match moment_before(alloc, joined, knobs, cpu, line)? {
             Some(moment) => Ok(told_bound(&moment, knobs)),
             None => Ok(None),
         },
-        _ => match moment_at(alloc, joined, knobs, cpu, line, hasher)? {
+        _ => match moment_at(alloc, joined, knobs, cpu, line)? {
             Some(moment) => found_bound(moment, knobs, kind, pid),
             None => Ok(None),
         },
@@ -56,12 +54,11 @@ fn idling_bound(
     knobs: Knobs,
     cpu: u32,
     line: u32,
-    hasher: PidHasher,
 ) -> Result<Option<Bound>, Memory>
     ensures { IfOk result (λ found. IfSome found (λ bound. AreIdlingNumbers knobs (record_view joined.now) cpu line
         bound.value bound.limit)) }
 {
-    let Some(since) = idled_before(alloc, joined, knobs, cpu, line, hasher)? else {
+    let Some(since) = idled_before(alloc, joined, knobs, cpu, line)? else {
         return Ok(None);
     };
     for event in joined.events() {

@@ -8,7 +8,6 @@ ghost use Rattle.runqueue.specs.Queue.{runqueue_view};
 ghost use Rattle.sched_record.specs.Record.{record_view};
 
 use cfs_model::{Knobs, Memory};
-use pid_table::PidHasher;
 use queue_replay::{Replay, State};
 use replay_model::Step;
 use runqueue::Runqueue;
@@ -29,7 +28,6 @@ pub(crate) fn moment_before(
     knobs: Knobs,
     cpu: u32,
     line: u32,
-    hasher: PidHasher,
 ) -> Result<Option<Moment>, Memory>
     ensures { IfOk result (λ found. IfSome found
         (λ moment. IsMoment knobs (record_view joined.now) cpu line (runqueue_view moment.queue) moment.step)) }
@@ -43,7 +41,7 @@ pub(crate) fn moment_before(
         return Ok(None);
     }
     let step = stream.steps()[count];
-    let mut replay = match Replay::with_hasher(alloc, stream, knobs, hasher) {
+    let mut replay = match Replay::new(alloc, stream, knobs) {
         Ok(replay) => replay,
         Err((_, memory)) => return Err(memory),
     };
@@ -63,12 +61,11 @@ pub(crate) fn moment_at(
     knobs: Knobs,
     cpu: u32,
     line: u32,
-    hasher: PidHasher,
 ) -> Result<Option<Moment>, Memory>
     ensures { IfOk result (λ found. IfSome found
         (λ moment. IsReady knobs (record_view joined.now) cpu line (runqueue_view moment.queue) moment.step)) }
 {
-    match moment_before(alloc, joined, knobs, cpu, line, hasher)? {
+    match moment_before(alloc, joined, knobs, cpu, line)? {
         Some(mut moment) => {
             if meet_event(&mut moment, knobs) {
                 Ok(Some(moment))
@@ -107,7 +104,6 @@ pub(crate) fn idled_before(
     knobs: Knobs,
     cpu: u32,
     line: u32,
-    hasher: PidHasher,
 ) -> Result<Option<u64>, Memory>
     ensures { IfOk result (λ found. IfSome found
         (λ since. (part : Part) × IsBefore knobs (record_view joined.now) cpu line part (Some since))) }
@@ -117,7 +113,7 @@ pub(crate) fn idled_before(
     }
     let stream = joined.deal(cpu)?;
     let count = count_before(stream.steps(), line);
-    let mut replay = match Replay::with_hasher(alloc, stream, knobs, hasher) {
+    let mut replay = match Replay::new(alloc, stream, knobs) {
         Ok(replay) => replay,
         Err((_, memory)) => return Err(memory),
     };

@@ -8,7 +8,6 @@ use crate::Bound;
 use crate::distance::{above, apart};
 use crate::moment::{Moment, moment_at};
 use cfs_model::{Knobs, Memory};
-use pid_table::PidHasher;
 use replay_model::Deed;
 use sched_record::Record;
 use std::alloc::Global;
@@ -21,17 +20,16 @@ pub(crate) fn moved_bound(
     cpu: u32,
     line: u32,
     task: u32,
-    hasher: PidHasher,
 ) -> Result<Option<Bound>, Memory>
     ensures { IfOk result (λ found. IfSome found (λ bound. AreMovedNumbers knobs (record_view joined.now) cpu line task
         bound.value bound.limit)) }
 {
-    let Some(here) = moment_at(alloc, joined, knobs, cpu, line, hasher)? else {
+    let Some(here) = moment_at(alloc, joined, knobs, cpu, line)? else {
         return Ok(None);
     };
     match here.step.deed {
         Deed::Arrive { pid, orig, .. } if pid == task => {
-            match moment_at(alloc, joined, knobs, orig, line, hasher)? {
+            match moment_at(alloc, joined, knobs, orig, line)? {
                 Some(there) => Ok(between(&there, &here, pid)),
                 None => Ok(None),
             }

@@ -1,19 +1,20 @@
 -- What one read adds: the lines that have ended are passed on, and the input goes on behind them or has ended.
 use Rattle.std.proofs.Common.{◌≡◌, ℕ, Bool, suc, ◌+◌, ◌*◌, ◌-◌, ◌^◌, ◌<◌, ◌≤◌, false, true, List, [], ◌∷◌, ◌++◌, length}
-use Rattle.std.proofs.Common.{take, drop, Option, inl, inr, sym, ap, ◌∙◌, subst, arith, append_assoc, length-append}
+use Rattle.std.proofs.Common.{Option, inl, inr, sym, ap, ◌∙◌, subst, arith, append_assoc, append-nil, length-append}
 use Rattle.std.proofs.KnownBytes.{Consumes-trans}
-use Rattle.std.proofs.Math.Nat.{add-mul, mul-le-mul, one-mul}
+use Rattle.std.proofs.Math.Nat.{mul-le-mul}
 use Rattle.std.proofs.lemmas.Bool.{cases_Bool}
-use Rattle.std.proofs.lemmas.List.{append_cancel_left, length-take}
+use Rattle.std.proofs.lemmas.List.{append_cancel_left}
 use Rattle.std.specs.Io.KnownBytes.{Consumes, IsAtEnd}
 use Rattle.text_parts.specs.Lines.{is_line_feed, lines_of, with_front, IsWhole}
 use Rattle.text_parts.proofs.TextLines.{lines_of_end, lines_of_more, lines_of_nil}
-use Rattle.input_blocks.proofs.Holding.{LinesAfterWhole, held_read, held_same}
-use Rattle.input_blocks.proofs.PassedOn.{agrees_at_end, whole_and_whole}
-use Rattle.input_blocks.specs.Blocks.{ComesTo, IsAmid, IsThen}
+use Rattle.input_blocks.proofs.Holding.{LinesAfterWhole}
+use Rattle.input_blocks.proofs.PassedOn.{whole_and_whole, whole_input}
+use Rattle.input_blocks.specs.Blocks.{ComesTo, HasReadOn, IsAmid, IsThen, filled, waiting}
 use Rattle.input_blocks.specs.Held.{IsHeld, PassesOn}
-use Rattle.input_blocks.specs.declared.held.Held.{Held}
+use Rattle.input_blocks.specs.declared.begun_line.BegunLine.{BegunLine}
 use Rattle.input_blocks.specs.declared.line_blocks.LineBlocks.{LineBlocks}
+use Rattle.input_blocks.specs.declared.passing.Passing.{Passing}
 
 -- ---- how many lines there are
 
@@ -34,9 +35,6 @@ lines_few (byte ∷ text) =
           omega (arith, rest, e, l)
     ]
 
-product_one : (reads size : ℕ) → (reads + 1) * size ≡ reads * size + size
-product_one reads size = add-mul reads 1 size ∙ ap (λ n. reads * size + n) (one-mul size)
-
 -- so few that they are numbered
 countable : (bytes : List ℕ) (reads size : ℕ) → length bytes ≤ reads * size → reads ≤ 2 ^ 32 → size < 2 ^ 32
     → length (lines_of bytes) + 1 < 2 ^ 64
@@ -46,74 +44,115 @@ countable bytes reads size within few small =
     let lines = lines_few bytes in
     omega (arith, within, product, lines)
 
--- whole lines were passed on, and what is held now is enough of the line behind them
-pub record GoesOnTo {R : Type 0} (reads : R → R → List (List ℕ) → Type 0) (old new : R) (gave after : Option (List ℕ))
-    (done items : List ℕ) (held : Held) (calls size : ℕ) : Type 0
-  where
-    pub more : List ℕ
-    pub lines : lines_of (done ++ more) ≡ lines_of done ++ lines_of more
-    pub read : reads old new (lines_of more)
-    pub countable : length (lines_of (done ++ more)) + 1 < 2 ^ 64
-    pub whole : IsWhole (done ++ more)
-    pub line : List ℕ
-    pub is_held : IsHeld reads items held line
-    pub consumed : Consumes gave after ((done ++ more) ++ line)
-    pub few : length ((done ++ more) ++ line) ≤ calls * size
+-- ---- what is amid an input
 
-module _ {R : Type 0} (reads : R → R → List (List ℕ) → Type 0) (law : LinesAfterWhole) (old new : R)
-    (gave before after : Option (List ℕ)) (blocks : LineBlocks) (done items : List ℕ) (count : ℕ)
-    (amid : IsAmid reads gave before blocks done)
-    (front : take blocks.held.length items ≡ take blocks.held.length blocks.bytes.items)
-    (came : Consumes before after (take count (drop blocks.held.length items))) where
-  abbrev held_now : IsHeld reads items blocks.held amid.line
-  held_now = held_same reads blocks.bytes.items items blocks.held amid.line front amid.is_held
-
-  -- the input has ended: the line that was held is the last
-  pub comes_to_end : (next : LineBlocks) → count ≡ 0 → IsAtEnd after
-      → reads old new (lines_of (take blocks.held.length items)) → blocks.reads ≤ 2 ^ 32 → blocks.size < 2 ^ 32
-      → ComesTo reads old new gave after next done false
-  comes_to_end next none end read few small = record {
-    more = amid.line;
-    lines = law done amid.line amid.whole;
-    read = held_read reads old new items blocks.held amid.line held_now read;
-    few = countable (done ++ amid.line) blocks.reads blocks.size amid.few few small;
-    next = agrees_at_end gave before after (done ++ amid.line) (drop blocks.held.length items) count amid.consumed came
-        none end;
-  }
-
-  -- the input goes on: whole lines were passed on, and the line behind them is held
-  pub comes_on : (bytes : List ℕ) (held : Held) (calls size : ℕ) → count ≤ blocks.size → calls ≡ blocks.reads + 1
-      → size ≡ blocks.size → calls ≤ 2 ^ 32 → size < 2 ^ 32
-      → PassesOn reads old new (amid.line ++ take count (drop blocks.held.length items)) bytes held
-      → GoesOnTo reads old new gave after done bytes held calls size
-  comes_on bytes held calls size within one same few small on =
-      let new_bytes : List ℕ = take count (drop blocks.held.length items) in
-      let whole : List ℕ = on.passes.whole in
-      let parts : (done ++ amid.line) ++ new_bytes ≡ (done ++ whole) ++ on.line =
-      append_assoc done amid.line new_bytes ∙ ap (λ (text : List ℕ). done ++ text) on.passes.parts
-      ∙ sym (append_assoc done whole on.line) in
-      let length_fits : length ((done ++ whole) ++ on.line) ≤ calls * size =
-      let before_few = amid.few in
-      let came_few = length-take count (drop blocks.held.length items) in
-      let both = length-append (done ++ amid.line) new_bytes in
+module _ {R : Type 0} (reads : R → R → List (List ℕ) → Type 0) where
+  -- more was read
+  pub amid_read : (gave before after : Option (List ℕ)) (blocks next : LineBlocks) (done : List ℕ)
+      → next.passing ≡ blocks.passing → HasReadOn before after blocks.source next.source
+      → IsAmid reads gave before blocks done → IsAmid reads gave after next done
+  amid_read gave before after blocks next done same read amid =
+      let ahead : List ℕ = filled blocks.passing.ahead in
+      let block : List ℕ = filled blocks.source.block in
+      let so_far : List ℕ = done ++ amid.line in
+      let parts : (so_far ++ (ahead ++ block)) ++ read.bytes ≡ so_far ++ waiting next =
+      append_assoc so_far (ahead ++ block) read.bytes
+      ∙ ap (λ (t : List ℕ). so_far ++ t)
+      (append_assoc ahead block read.bytes
+      ∙ ap (λ (t : List ℕ). ahead ++ t) (sym read.behind)
+      ∙ ap (λ (p : Passing). filled p.ahead ++ filled next.source.block) (sym same)) in
+      let fits : length (so_far ++ waiting next) ≤ next.source.reads * next.source.size =
+      let few = amid.few in
+      let more = read.few in
+      let both = length-append (so_far ++ (ahead ++ block)) read.bytes in
       let all = ap length parts in
-      let product = product_one blocks.reads blocks.size in
-      let now : calls * size ≡ (blocks.reads + 1) * blocks.size =
-      ap (λ n. n * size) one ∙ ap (λ n. (blocks.reads + 1) * n) same in
-      omega (arith, within, before_few, came_few, both, all, product, now) in
+      let size : next.source.reads * next.source.size ≡ next.source.reads * blocks.source.size =
+      ap (λ n. next.source.reads * n) read.same_size in
+      omega (arith, few, more, both, all, size) in
       record {
-        more = whole;
-        lines = law done whole amid.whole;
-        read = on.passes.read;
-        countable = countable (done ++ whole) calls size
-            (let n = length-append (done ++ whole) on.line in omega (arith, length_fits, n)) few small;
-        whole = whole_and_whole done whole amid.whole on.passes.ends;
-        line = on.line;
-        is_held = on.is_held;
+        whole = amid.whole;
+        line = amid.line;
+        is_held = subst (λ (p : Passing). IsHeld reads p.begun amid.line) (sym same) amid.is_held;
         consumed = subst (Consumes gave after) parts
-            (Consumes-trans gave before after (done ++ amid.line) new_bytes amid.consumed came);
-        few = length_fits;
+            (Consumes-trans gave before after (so_far ++ (ahead ++ block)) read.bytes amid.consumed read.consumed);
+        few = fits;
       }
+
+  -- the same was read and passed on
+  pub amid_same : (gave left : Option (List ℕ)) (blocks next : LineBlocks) (done : List ℕ)
+      → next.passing.begun ≡ blocks.passing.begun → waiting next ≡ waiting blocks
+      → next.source.reads ≡ blocks.source.reads → next.source.size ≡ blocks.source.size
+      → IsAmid reads gave left blocks done → IsAmid reads gave left next done
+  amid_same gave left blocks next done begun same calls size amid =
+      let so_far : List ℕ = done ++ amid.line in
+      let text : so_far ++ waiting blocks ≡ so_far ++ waiting next = ap (λ (t : List ℕ). so_far ++ t) (sym same) in
+      let fits : length (so_far ++ waiting next) ≤ next.source.reads * next.source.size =
+      let few = amid.few in
+      let all = ap length text in
+      let product : next.source.reads * next.source.size ≡ blocks.source.reads * blocks.source.size =
+      ap (λ n. n * next.source.size) calls ∙ ap (λ n. blocks.source.reads * n) size in
+      omega (arith, few, all, product) in
+      record {
+        whole = amid.whole;
+        line = amid.line;
+        is_held = subst (λ (b : BegunLine). IsHeld reads b amid.line) (sym begun) amid.is_held;
+        consumed = subst (Consumes gave left) text amid.consumed;
+        few = fits;
+      }
+
+  module _ (law : LinesAfterWhole) (old new : R) (gave left : Option (List ℕ)) (blocks next : LineBlocks)
+      (done : List ℕ) (amid : IsAmid reads gave left blocks done) (few : blocks.source.reads ≤ 2 ^ 32)
+      (small : blocks.source.size < 2 ^ 32) where
+    -- the first of what waits was passed on
+    pub amid_passed : (front rest : List ℕ) → waiting blocks ≡ front ++ rest → waiting next ≡ rest
+        → next.source.reads ≡ blocks.source.reads → next.source.size ≡ blocks.source.size
+        → PassesOn reads old new (amid.line ++ front) next.passing.begun
+        → ComesTo reads old new gave left next done true
+    amid_passed front rest waits waits_now calls size on =
+        let whole : List ℕ = on.passes.whole in
+        let parts : (done ++ amid.line) ++ waiting blocks ≡ ((done ++ whole) ++ on.line) ++ waiting next =
+        ap (λ (t : List ℕ). (done ++ amid.line) ++ t) waits ∙ sym (append_assoc (done ++ amid.line) front rest)
+        ∙ ap (λ (t : List ℕ). t ++ rest) (append_assoc done amid.line front
+        ∙ ap (λ (t : List ℕ). done ++ t) on.passes.parts ∙ sym (append_assoc done whole on.line))
+        ∙ ap (λ (t : List ℕ). ((done ++ whole) ++ on.line) ++ t) (sym waits_now) in
+        let fits : length (((done ++ whole) ++ on.line) ++ waiting next) ≤ next.source.reads * next.source.size =
+        let before = amid.few in
+        let all = ap length parts in
+        let product : next.source.reads * next.source.size ≡ blocks.source.reads * blocks.source.size =
+        ap (λ n. n * next.source.size) calls ∙ ap (λ n. blocks.source.reads * n) size in
+        omega (arith, before, all, product) in
+        record {
+          more = whole;
+          lines = law done whole amid.whole;
+          read = on.passes.read;
+          few = countable (done ++ whole) blocks.source.reads blocks.source.size
+              (let before = amid.few in let all = ap length parts in
+              let n = length-append ((done ++ whole) ++ on.line) (waiting next) in
+              let m = length-append (done ++ whole) on.line in
+              omega (arith, before, all, n, m)) few small;
+          next = record {
+            whole = whole_and_whole done whole amid.whole on.passes.ends;
+            line = on.line;
+            is_held = on.is_held;
+            consumed = subst (Consumes gave left) parts amid.consumed;
+            few = fits;
+          };
+        }
+
+    -- nothing waits and nothing comes: the line that is held is the last
+    pub amid_end : waiting blocks ≡ [] → IsAtEnd left → reads old new (lines_of amid.line)
+        → ComesTo reads old new gave left next done false
+    amid_end none end read = record {
+      more = amid.line;
+      lines = law done amid.line amid.whole;
+      read = read;
+      few = countable (done ++ amid.line) blocks.source.reads blocks.source.size
+          (let before = amid.few in let n = length-append (done ++ amid.line) (waiting blocks) in
+          omega (arith, before, n)) few small;
+      next = whole_input gave left (done ++ amid.line)
+          (subst (Consumes gave left) (ap (λ (t : List ℕ). (done ++ amid.line) ++ t) none
+          ∙ append-nil (done ++ amid.line)) amid.consumed) end;
+    }
 
 -- ---- several reads, one behind the other
 

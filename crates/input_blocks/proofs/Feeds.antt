@@ -1,10 +1,8 @@
 -- Where lines end among bytes.
-use Rattle.std.proofs.Common.{◌≡◌, ℕ, suc, ◌+◌, ◌-◌, ◌<◌, ◌≤◌, true, false, List, [], ◌∷◌, ◌++◌, length, take, drop}
+use Rattle.std.proofs.Common.{◌≡◌, ◌≢◌, ℕ, suc, ◌+◌, ◌<◌, ◌≤◌, true, false, List, [], ◌∷◌, ◌++◌, length, take}
 use Rattle.std.proofs.Common.{inl, inr, refl, sym, ap, ◌∙◌, subst, arith, add-one, one-add}
 use Rattle.std.specs.List.{before_first, list_any}
 use Rattle.std.proofs.lemmas.Bool.{cases_Bool, eqb-true, or_parts}
-use Rattle.std.proofs.Math.Seq.{take-add}
-use Rattle.std.proofs.lemmas.List.{drop_at, drop-take, drop-drop}
 use Rattle.std.proofs.lemmas.List.Folds.{list_any-append}
 use Rattle.text_parts.specs.Lines.{is_line_feed, lines_of, with_front}
 use Rattle.text_parts.proofs.TextLines.{lines_of_end, lines_of_more, lines_of_nil}
@@ -69,81 +67,34 @@ all_before (b ∷ s) le =
           (all_before s (omega (arith, le, ap length (before_cons b s e))))
     ]
 
-pub feed_behind : (s : List ℕ) → length (before_first is_line_feed s) < length s
-    → s ≡ before_first is_line_feed s ++ 10 ∷ drop (length (before_first is_line_feed s) + 1) s
-feed_behind [] lt = absurd (omega (arith, lt))
-feed_behind (b ∷ s) lt =
+-- the first line with its end
+pub end_of_first : (s : List ℕ) → length (before_first is_line_feed s) < length s
+    → take (length (before_first is_line_feed s) + 1) s ≡ before_first is_line_feed s ++ 10 ∷ []
+end_of_first [] lt = absurd (omega (arith, lt))
+end_of_first (b ∷ s) lt =
     elim (cases_Bool (is_line_feed b)) [
-      | inl e ↦ rw (before_at b s e) (ap (λ c. c ∷ s) (eqb-true b 10 e))
+      | inl e ↦ rw (before_at b s e) (ap (λ c. c ∷ []) (eqb-true b 10 e))
       | inr e ↦
           let shorter : length (before_first is_line_feed s) < length s =
           omega (arith, lt, ap length (before_cons b s e)) in
           let up : length (before_first is_line_feed s) + 1 ≡ suc (length (before_first is_line_feed s)) =
           omega arith in
-          rw (before_cons b s e, add-one)
-          (ap (λ (t : List ℕ). b ∷ t) (feed_behind s shorter
-          ∙ ap (λ n. before_first is_line_feed s ++ 10 ∷ drop n s) up))
+          rw (before_cons b s e, add-one) (ap (λ (t : List ℕ). b ∷ t)
+          (ap (λ n. take n s) (sym up) ∙ end_of_first s shorter))
     ]
 
--- ---- the bytes that are left behind whole lines
+-- no line feed is among bytes of which the first line is all
+pub no_feed : (bytes piece : List ℕ) → piece ≡ before_first is_line_feed bytes → length bytes ≤ length piece
+    → list_any is_line_feed bytes ≡ false
+no_feed bytes piece is le =
+    let all = all_before bytes (omega (arith, le, ap length is)) in
+    subst (λ (t : List ℕ). list_any is_line_feed t ≡ false) all (no_feed_before bytes)
 
-pub new_bytes : (bytes : List ℕ) (filled count : ℕ)
-    → take (filled + count - filled) (drop filled bytes) ≡ take count (drop filled bytes)
-new_bytes bytes filled count = ap (λ n. take n (drop filled bytes))
-    (let e : filled + count - filled ≡ count = omega arith in e)
-
--- none of them ends a line, where no line ended among the new ones
-pub none_left : (bytes : List ℕ) (filled count whole : ℕ) → whole ≡ 0
-    → list_any is_line_feed (take filled bytes) ≡ false
-    → list_any is_line_feed (drop whole (take (filled + count - filled) (drop filled bytes))) ≡ false
-    → list_any is_line_feed (take (filled + count) bytes) ≡ false
-none_left bytes filled count whole zero none rest =
-    let new : List ℕ = take (filled + count - filled) (drop filled bytes) in
-    let behind : drop whole new ≡ take count (drop filled bytes) = ap (λ n. drop n new) zero ∙ drop_at [] new 0 refl
-    ∙ new_bytes bytes filled count in
-    subst (λ (t : List ℕ). list_any is_line_feed t ≡ false) (sym (take-add filled count bytes))
-    (none_in_both (take filled bytes) (take count (drop filled bytes)) none
-    (subst (λ (t : List ℕ). list_any is_line_feed t ≡ false) behind rest))
-
--- none of them ends a line, behind the last that did
-pub none_behind : (bytes left : List ℕ) (filled count whole : ℕ) → whole ≤ count
-    → left ≡ take (count - whole) (drop (filled + whole) bytes)
-    → list_any is_line_feed (drop whole (take (filled + count - filled) (drop filled bytes))) ≡ false
-    → list_any is_line_feed left ≡ false
-none_behind bytes left filled count whole within is rest =
-    let behind : drop whole (take (filled + count - filled) (drop filled bytes)) ≡ left =
-    ap (drop whole) (new_bytes bytes filled count
-    ∙ ap (λ n. take n (drop filled bytes)) (let e : count ≡ whole + (count - whole) = omega (arith, within) in e))
-    ∙ drop-take whole (count - whole) (drop filled bytes) ∙ ap (take (count - whole)) (drop-drop whole filled bytes)
-    ∙ sym is in
-    subst (λ (t : List ℕ). list_any is_line_feed t ≡ false) behind rest
-
--- ---- the new bytes behind a settled line
-
--- what is left of them behind the first line feed
-pub behind_feed : (bytes moved : List ℕ) (filled count width : ℕ) → width < count
-    → take (count - (width + 1)) moved ≡ take (count - (width + 1)) (drop (filled + (width + 1)) bytes)
-    → take (0 + (count - (width + 1))) moved ≡ drop (width + 1) (take count (drop filled bytes))
-behind_feed bytes moved filled count width within is =
-    ap (λ n. take n moved) (let e : 0 + (count - (width + 1)) ≡ count - (width + 1) = omega arith in e) ∙ is
-    ∙ ap (take (count - (width + 1))) (sym (drop-drop (width + 1) filled bytes))
-    ∙ sym (drop-take (width + 1) (count - (width + 1)) (drop filled bytes))
-    ∙ ap (λ n. drop (width + 1) (take n (drop filled bytes)))
-    (let e : (width + 1) + (count - (width + 1)) ≡ count = omega (arith, within) in e)
-
--- the new bytes are those before their first line feed, it, and what is left
-pub cut_at_first_feed : (new piece rest : List ℕ) → piece ≡ before_first is_line_feed new → length piece < length new
-    → rest ≡ drop (length piece + 1) new → new ≡ piece ++ 10 ∷ rest
-cut_at_first_feed new piece rest is lt behind =
-    let before : List ℕ = before_first is_line_feed new in
-    let same : length piece ≡ length before = ap length is in
-    feed_behind new (omega (arith, lt, same))
-    ∙ ap (λ (t : List ℕ). before ++ 10 ∷ t) (ap (λ n. drop (n + 1) new) (sym same) ∙ sym behind)
-    ∙ ap (λ (t : List ℕ). t ++ 10 ∷ rest) (sym is)
-
--- no line feed is among the new bytes
-pub no_feed : (new piece : List ℕ) → piece ≡ before_first is_line_feed new → length new ≤ length piece
-    → list_any is_line_feed new ≡ false
-no_feed new piece is le =
-    let all = all_before new (omega (arith, le, ap length is)) in
-    subst (λ (t : List ℕ). list_any is_line_feed t ≡ false) all (no_feed_before new)
+-- up to the first line feed, and with that
+pub first_end : (bytes piece : List ℕ) → piece ≡ before_first is_line_feed bytes → length piece ≢ length bytes
+    → take (length piece + 1) bytes ≡ before_first is_line_feed bytes ++ 10 ∷ []
+first_end bytes piece is unlike =
+    let same = ap length is in
+    let within = before_within bytes in
+    let shorter : length (before_first is_line_feed bytes) < length bytes = omega (arith, same, within, unlike) in
+    ap (λ n. take (n + 1) bytes) same ∙ end_of_first bytes shorter

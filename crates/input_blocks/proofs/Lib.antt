@@ -3,4 +3,6 @@ mod Feeds
 mod Coming
 mod Holding
 mod PassedOn
+mod ReadBehind
 pub mod Beginning
+pub mod Turning

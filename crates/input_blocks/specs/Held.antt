@@ -1,9 +1,9 @@
 -- Readers of lines, and what is held of a line whose end hasn't come yet (this project's profile). Of a reader a
 -- relation says whether one comes from another by reading some lines.
-use Rattle.std.specs.Prelude.{◌≡◌, ℕ, ◌<◌, Bool, true, false, List, [], ◌∷◌, ◌++◌, length, take}
+use Rattle.std.specs.Prelude.{◌≡◌, ℕ, ◌<◌, Bool, true, false, List, [], ◌∷◌, ◌++◌, length}
 use Rattle.std.specs.List.{list_any}
 use Rattle.text_parts.specs.Lines.{is_line_feed, lines_of, IsWhole}
-use Rattle.input_blocks.specs.declared.held.Held.{Held}
+use Rattle.input_blocks.specs.declared.begun_line.BegunLine.{BegunLine}
 
 -- whatever comes behind this beginning of a line, what is read of it is read of the line
 pub record Settles {R : Type 0} (reads : R → R → List (List ℕ) → Type 0) (front : List ℕ) : Type 0 where
@@ -16,13 +16,12 @@ AreEnough reads true front more = Settles reads front
 AreEnough reads false front more = more ≡ []
 
 -- of this line, whose end hasn't come yet, enough is held
-pub record IsHeld {R : Type 0} (reads : R → R → List (List ℕ) → Type 0) (bytes : List ℕ) (held : Held)
-    (line : List ℕ) : Type 0
+pub record IsHeld {R : Type 0} (reads : R → R → List (List ℕ) → Type 0) (begun : BegunLine) (line : List ℕ) : Type 0
   where
     pub more : List ℕ
-    pub parts : line ≡ take held.length bytes ++ more
+    pub parts : line ≡ begun.bytes.items ++ more
     pub one : list_any is_line_feed line ≡ false
-    pub enough : AreEnough reads held.settled (take held.length bytes) more
+    pub enough : AreEnough reads begun.settled begun.bytes.items more
 
 -- of these bytes the reader has read whole lines, and the others are left
 pub record PassesWhole {R : Type 0} (reads : R → R → List (List ℕ) → Type 0) (old new : R)
@@ -34,9 +33,9 @@ pub record PassesWhole {R : Type 0} (reads : R → R → List (List ℕ) → Typ
     pub read : reads old new (lines_of whole)
 
 -- of this text the reader has read whole lines, and enough is held of the line behind them
-pub record PassesOn {R : Type 0} (reads : R → R → List (List ℕ) → Type 0) (old new : R) (text bytes : List ℕ)
-    (held : Held) : Type 0
+pub record PassesOn {R : Type 0} (reads : R → R → List (List ℕ) → Type 0) (old new : R) (text : List ℕ)
+    (begun : BegunLine) : Type 0
   where
     pub line : List ℕ
-    pub is_held : IsHeld reads bytes held line
+    pub is_held : IsHeld reads begun line
     pub passes : PassesWhole reads old new text line

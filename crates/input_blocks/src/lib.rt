@@ -2,9 +2,11 @@
 //! the beginning of a line.
 #![tactic(auto)]
 
+mod begun_line;
+mod block;
+mod block_source;
 mod companion;
 mod entries;
-mod held;
 mod line_blocks;
 mod line_reader;
 mod passing;
@@ -12,7 +14,9 @@ mod reading;
 mod to_end;
 mod trace;
 
+pub use block_source::BlockSource;
 pub use line_blocks::LineBlocks;
 pub use line_reader::LineReader;
+pub use passing::Passing;
 pub use to_end::read_to_end;
 pub use trace::read_lines;

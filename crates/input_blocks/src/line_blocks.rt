@@ -1,42 +1,26 @@
-ghost use Rattle.std.specs.Prelude.{◌≤◌, ◌<◌, ◌^◌, vec_len};
-ghost use Rattle.audit_input.specs.Known.{most_reads};
-
 use crate::LineReader;
-use crate::held::{Held, NOTHING};
-use crate::passing::read_on;
-use crate::reading::read_block;
+use crate::block_source::BlockSource;
+use crate::passing::Passing;
 use audit_input::{Fault, Feed};
+use cfs_model::Memory;
 use std::alloc::Global;
+use std::mem::swap;
 use text_parts::lines::lines_after_whole;
 
-/// How many reads are made on one input, at most.
-const MOST_READS: u64 = 1 << 32;
-
-/// An input that is read a block at a time. Of what was read it holds the beginning of a line, and no more of that once
-/// it is settled what is read of the line.
+/// An input that is read a block at a time. The lines of what was read are passed on to a reader of lines: at once, or
+/// while the next blocks are read.
 #[derive(Debug, Drop)]
 pub struct LineBlocks {
-    bytes: Vec<u8>,
-    held: Held,
-    /// How many bytes a read asks for, at most.
-    size: u32,
-    /// How many reads were made.
-    reads: u64,
-    /// Whether the last of them gave the end.
-    ended: bool,
-    ghost within: { held.length ≤ vec_len bytes },
-    ghost some: { 0 < size },
-    ghost small: { size < 2 ^ 32 },
-    pub ghost bounded: { reads ≤ most_reads },
-    ghost roomy: { 0 < reads → 0 < vec_len bytes },
+    pub passing: Passing,
+    pub source: BlockSource,
 }
 
 impl LineBlocks {
-    ghost use Rattle.std.specs.Prelude.{◌≡◌, ◌⊎◌, ◌==◌, ◌+◌, ◌++◌, ℕ, List, Option, true, false, not};
-    ghost use Rattle.std.specs.Prelude.{IfOk, IfErr, OnOk, max, take, drop};
-    ghost use Rattle.std.specs.Io.KnownBytes.{Consumes, IsAtEnd};
-    ghost use Rattle.audit_input.specs.Known.{Agrees, IsCutShort};
-    ghost use Rattle.input_blocks.specs.Blocks.{ComesTo, IsAmid, IsFresh};
+    ghost use Rattle.std.specs.Prelude.{◌≡◌, ◌⊎◌, ◌<◌, ◌≤◌, ◌+◌, ℕ, List, Option, [], Ok, true, false, not};
+    ghost use Rattle.std.specs.Prelude.{IfErr, IfOk, OnOk, max};
+    ghost use Rattle.std.specs.Io.KnownBytes.{IsAtEnd};
+    ghost use Rattle.audit_input.specs.Known.{IsCutShort, most_reads};
+    ghost use Rattle.input_blocks.specs.Blocks.{ComesTo, IsAmid, IsFresh, filled};
 
     /// Of an input of which no read was made; each will ask for at most so many bytes. It takes no memory.
     pub fn new(alloc: Global, size: u32) -> LineBlocks
@@ -44,11 +28,8 @@ impl LineBlocks {
         ensures { IsFresh result }
     {
         LineBlocks {
-            bytes: Vec::new(alloc),
-            held: NOTHING,
-            size,
-            reads: 0,
-            ended: false,
+            passing: Passing::new(alloc),
+            source: BlockSource::new(alloc, size),
         }
     }
 
@@ -61,33 +42,28 @@ impl LineBlocks {
         fault: Fault,
     ) -> Result<bool, Fault>
         requires unended { F.has_ended feed.old ≡ false }
-        requires counted { F.calls feed.old ≡ self.old.reads }
+        requires counted { F.calls feed.old ≡ self.old.source.reads }
         ensures passed { (gave : Option (List ℕ)) (done : List ℕ)
             → IsAmid L.reads gave (F.left feed.old) self.old done
             → IfOk result (λ goes_on. ComesTo L.reads reader.old reader.new gave (F.left feed.new) self.new done
             goes_on) }
         ensures end { IfOk result (λ goes_on. goes_on ≡ false → IsAtEnd (F.left feed.new)) }
         ensures ended { IfOk result (λ goes_on. F.has_ended feed.new ≡ not goes_on) }
-        ensures counted { OnOk result (F.calls feed.new ≡ self.new.reads) }
-        ensures one_read { OnOk result (self.new.reads ≡ self.old.reads + 1) }
+        ensures counted { OnOk result (F.calls feed.new ≡ self.new.source.reads) }
+        ensures one_read { OnOk result (self.new.source.reads ≡ self.old.source.reads + 1) }
         ensures bounded { F.calls feed.new ≤ most_reads }
         ensures heard { OnOk result (F.has_failed feed.new ≡ F.has_failed feed.old) }
         ensures cut_short { IfErr result (λ e. ((e ≡ Fault.Memory) × (F.has_failed feed.new ≡ F.has_failed feed.old))
             ⊎ ((e ≡ fault) × IsCutShort (F.has_failed feed.new) (F.calls feed.new))) }
-        ensures never_fewer { self.old.reads ≤ self.new.reads }
-        ensures told { OnOk result (F.has_ended feed.new ≡ self.new.ended) }
+        ensures never_fewer { self.old.source.reads ≤ self.new.source.reads }
+        ensures told { OnOk result (F.has_ended feed.new ≡ self.new.source.ended) }
         // Where memory is wanted, the blocks tell all the same how the input stands.
         ensures wanted { IfErr result (λ e. (e ≡ fault)
-            ⊎ ((F.calls feed.new ≡ self.new.reads) × (F.has_ended feed.new ≡ self.new.ended))) }
+            ⊎ ((F.calls feed.new ≡ self.new.source.reads) × (F.has_ended feed.new ≡ self.new.source.ended))) }
     {
-        lines_after_whole();
-        let count = self.read_once(feed, fault)?;
-        if count == 0 {
-            reader.read(&self.bytes[..self.held.length])?;
-            return Ok(false);
-        }
-        self.held = read_on(reader, &mut self.bytes, self.held, count)?;
-        Ok(true)
+        let goes_on = self.source.read_once(feed, fault)?;
+        self.pass_all(reader, goes_on)?;
+        Ok(goes_on)
     }
 
     /// Reads so many times, one at least, while the input goes on, and passes the lines that have ended on to the
@@ -100,26 +76,27 @@ impl LineBlocks {
         fault: Fault,
     ) -> Result<bool, Fault>
         requires unended { F.has_ended feed.old ≡ false }
-        requires counted { F.calls feed.old ≡ self.old.reads }
+        requires counted { F.calls feed.old ≡ self.old.source.reads }
         ensures passed { (gave : Option (List ℕ)) (done : List ℕ)
             → IsAmid L.reads gave (F.left feed.old) self.old done
             → IfOk result (λ goes_on. ComesTo L.reads reader.old reader.new gave (F.left feed.new) self.new done
             goes_on) }
         ensures end { IfOk result (λ goes_on. goes_on ≡ false → IsAtEnd (F.left feed.new)) }
         ensures ended { IfOk result (λ goes_on. F.has_ended feed.new ≡ not goes_on) }
-        ensures counted { OnOk result (F.calls feed.new ≡ self.new.reads) }
-        ensures read_on { OnOk result (self.old.reads < self.new.reads) }
-        ensures no_more { OnOk result (self.new.reads ≤ self.old.reads + max 1 most) }
-        ensures so_many { IfOk result (λ goes_on. goes_on ≡ true → self.old.reads + most ≤ self.new.reads) }
+        ensures counted { OnOk result (F.calls feed.new ≡ self.new.source.reads) }
+        ensures read_on { OnOk result (self.old.source.reads < self.new.source.reads) }
+        ensures no_more { OnOk result (self.new.source.reads ≤ self.old.source.reads + max 1 most) }
+        ensures so_many { IfOk result (λ goes_on. goes_on ≡ true
+            → self.old.source.reads + most ≤ self.new.source.reads) }
         ensures bounded { F.calls feed.new ≤ most_reads }
         ensures heard { OnOk result (F.has_failed feed.new ≡ F.has_failed feed.old) }
         ensures cut_short { IfErr result (λ e. ((e ≡ Fault.Memory) × (F.has_failed feed.new ≡ F.has_failed feed.old))
             ⊎ ((e ≡ fault) × IsCutShort (F.has_failed feed.new) (F.calls feed.new))) }
-        ensures never_fewer { self.old.reads ≤ self.new.reads }
-        ensures told { OnOk result (F.has_ended feed.new ≡ self.new.ended) }
+        ensures never_fewer { self.old.source.reads ≤ self.new.source.reads }
+        ensures told { OnOk result (F.has_ended feed.new ≡ self.new.source.ended) }
         // Where memory is wanted, the blocks tell all the same how the input stands.
         ensures wanted { IfErr result (λ e. (e ≡ fault)
-            ⊎ ((F.calls feed.new ≡ self.new.reads) × (F.has_ended feed.new ≡ self.new.ended))) }
+            ⊎ ((F.calls feed.new ≡ self.new.source.reads) × (F.has_ended feed.new ≡ self.new.source.ended))) }
     {
         lines_after_whole();
         let mut goes_on = self.next(feed, reader, fault)?;
@@ -131,76 +108,49 @@ impl LineBlocks {
         Ok(goes_on)
     }
 
-    /// Whether the last read gave the end.
-    pub fn has_ended(&self) -> bool
-        ensures { result ≡ self.now.ended }
+    /// Goes on behind a passing and some reads that were made beside it (`Passing::pass`, `BlockSource::read_some`):
+    /// what was read is passed on beside the next reads, or now, where the input has ended.
+    pub fn turn<L: LineReader>(
+        &mut self,
+        reader: &mut L,
+        passed: Result<(), Memory>,
+        read: Result<bool, Fault>,
+    ) -> Result<bool, Fault>
+        requires { OnOk passed (filled self.old.passing.ahead ≡ []) }
+        ensures passed { (gave : Option (List ℕ)) (left : Option (List ℕ)) (done : List ℕ)
+            → IsAmid L.reads gave left self.old done → IfOk read (λ goes_on. goes_on ≡ false → IsAtEnd left)
+            → IfOk result (λ goes_on. ComesTo L.reads reader.old reader.new gave left self.new done goes_on) }
+        ensures same { IfOk result (λ goes_on. (read ≡ Ok goes_on) × (passed ≡ Ok tt)) }
+        ensures reads { self.new.source.reads ≡ self.old.source.reads }
+        ensures ended { self.new.source.ended ≡ self.old.source.ended }
+        ensures told { IfErr result (λ e. IfErr read (λ f. e ≡ f)) }
+        ensures wanted { IfErr result (λ e. OnOk read (e ≡ Fault.Memory)) }
     {
-        self.ended
+        lines_after_whole();
+        let goes_on = read?;
+        passed?;
+        swap(&mut self.passing.ahead, &mut self.source.block);
+        if !goes_on {
+            self.pass_all(reader, false)?;
+        }
+        Ok(goes_on)
     }
 
-    /// Reads to the end, and lets go what comes. Where a read fails, or the most reads don't reach the end, this fault.
-    pub fn drain<F: Feed>(&mut self, feed: &mut F, fault: Fault) -> Result<(), Fault>
-        requires unended { F.has_ended feed.old ≡ false }
-        requires counted { F.calls feed.old ≡ self.old.reads }
-        ensures all { (gave : Option (List ℕ)) (done : List ℕ) → Consumes gave (F.left feed.old) done
-            → OnOk result ((more : List ℕ) × Agrees gave (done ++ more)) }
-        ensures end { OnOk result (IsAtEnd (F.left feed.new)) }
-        ensures ended { OnOk result (F.has_ended feed.new ≡ true) }
-        ensures bounded { F.calls feed.new ≤ most_reads }
-        ensures heard { OnOk result (F.has_failed feed.new ≡ F.has_failed feed.old) }
-        ensures cut_short { IfErr result (λ e. ((e ≡ Fault.Memory) × (F.has_failed feed.new ≡ F.has_failed feed.old))
-            ⊎ ((e ≡ fault) × IsCutShort (F.has_failed feed.new) (F.calls feed.new))) }
-        ensures never_fewer { self.old.reads ≤ self.new.reads }
-        // Once a read was made, no growth is asked for.
-        ensures roomy { IfErr result (λ e. 0 < self.old.reads → e ≡ fault) }
+    /// Passes all on that was read; the last line, too, if the input doesn't go on.
+    fn pass_all<L: LineReader>(&mut self, reader: &mut L, goes_on: bool) -> Result<(), Memory>
+        ensures passed { (gave : Option (List ℕ)) (left : Option (List ℕ)) (done : List ℕ)
+            → IsAmid L.reads gave left self.old done → (goes_on ≡ false → IsAtEnd left)
+            → OnOk result (ComesTo L.reads reader.old reader.new gave left self.new done goes_on) }
+        ensures reads { self.new.source.reads ≡ self.old.source.reads }
+        ensures ended { self.new.source.ended ≡ self.old.source.ended }
     {
-        self.held = NOTHING;
-        let mut count = self.read_once(feed, fault)?;
-        while count > 0 {
-            count = self.read_once(feed, fault)?;
+        lines_after_whole();
+        self.passing.pass(reader)?;
+        self.passing.begun.pass(reader, self.source.block.filled())?;
+        self.source.block.clear();
+        if !goes_on {
+            self.passing.begun.pass_last(reader)?;
         }
         Ok(())
-    }
-
-    /// Reads once, behind what is held, and says how many bytes came. None is the end.
-    fn read_once<F: Feed>(&mut self, feed: &mut F, fault: Fault) -> Result<usize, Fault>
-        requires unended { F.has_ended feed.old ≡ false }
-        requires counted { F.calls feed.old ≡ self.old.reads }
-        ensures held { self.new.held ≡ self.old.held }
-        ensures front { OnOk result (take self.old.held.length self.new.bytes.items
-            ≡ take self.old.held.length self.old.bytes.items) }
-        ensures fits { IfOk result (λ count. self.old.held.length + count ≤ vec_len self.new.bytes) }
-        ensures few { IfOk result (λ count. count ≤ self.old.size) }
-        ensures size { self.new.size ≡ self.old.size }
-        ensures read { IfOk result (λ count. Consumes (F.left feed.old) (F.left feed.new)
-            (take count (drop self.old.held.length self.new.bytes.items))) }
-        ensures end { IfOk result (λ count. count ≡ 0 → IsAtEnd (F.left feed.new)) }
-        ensures ended { IfOk result (λ count. F.has_ended feed.new ≡ (count == 0)) }
-        ensures counted { OnOk result (F.calls feed.new ≡ self.new.reads) }
-        ensures one_read { OnOk result (self.new.reads ≡ self.old.reads + 1) }
-        ensures bounded { F.calls feed.new ≤ most_reads }
-        ensures heard { OnOk result (F.has_failed feed.new ≡ F.has_failed feed.old) }
-        ensures cut_short { IfErr result (λ e. ((e ≡ Fault.Memory) × (F.has_failed feed.new ≡ F.has_failed feed.old))
-            ⊎ ((e ≡ fault) × IsCutShort (F.has_failed feed.new) (F.calls feed.new))) }
-        ensures never_fewer { self.old.reads ≤ self.new.reads }
-        ensures told { OnOk result (F.has_ended feed.new ≡ self.new.ended) }
-        ensures wanted { IfErr result (λ e. (e ≡ fault)
-            ⊎ ((F.calls feed.new ≡ self.new.reads) × (F.has_ended feed.new ≡ self.new.ended))) }
-        ensures roomy { IfErr result (λ e. self.old.held.length < vec_len self.old.bytes → e ≡ fault) }
-    {
-        if self.reads == MOST_READS {
-            return Err(fault);
-        }
-        self.ended = false;
-        let count = read_block(
-            feed,
-            &mut self.bytes,
-            self.held.length,
-            self.size as usize,
-            fault,
-        )?;
-        self.reads += 1;
-        self.ended = count == 0;
-        Ok(count)
     }
 }

@@ -34,10 +34,6 @@ pub(crate) fn read_block<F: Feed>(
     // Where memory is wanted, no read was made.
     ensures wanted { IfErr result (λ e. (e ≡ fault)
         ⊎ ((F.calls feed.new ≡ F.calls feed.old) × (F.has_ended feed.new ≡ F.has_ended feed.old))) }
-    // Where there is room, no growth is asked for.
-    ensures roomy { IfErr result (λ e. filled < vec_len bytes.old → e ≡ fault) }
-    ensures room { OnOk result (0 < vec_len bytes.new) }
-    ensures length { vec_len bytes.old ≤ vec_len bytes.new }
 {
     if make_room(bytes, filled, size).is_err() {
         return Err(Fault::Memory);
@@ -55,8 +51,6 @@ fn make_room(bytes: &mut Vec<u8>, filled: usize, size: usize) -> Result<(), Allo
     ensures front { take filled bytes.new.items ≡ take filled bytes.old.items }
     ensures still { filled ≤ vec_len bytes.new }
     ensures room { OnOk result (filled < vec_len bytes.new) }
-    ensures length { vec_len bytes.old ≤ vec_len bytes.new }
-    ensures roomy { OnErr result (filled ≡ vec_len bytes.old) }
 {
     if filled == bytes.len() {
         bytes.reserve(size)?;

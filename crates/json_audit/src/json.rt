@@ -13,19 +13,11 @@ use sched_audit::{
     write_report,
 };
 use std::alloc::Global;
-use std::random::RandomSource;
 use std::sync::Wait;
 use std::thread::Threads;
 
 /// Reads the trace to its end, then the companion, judges them, and writes what is told of them as one JSON object.
-pub fn run_json<
-    J: Told,
-    R: RandomSource + Threads + Wait + Sync,
-    T: Feed,
-    C: Feed,
-    G: Gate,
-    S: Sink,
->(
+pub fn run_json<J: Told, R: Threads + Wait + Sync, T: Feed, C: Feed, G: Gate, S: Sink>(
     rt: &R,
     alloc: Global,
     trace: &mut T,
@@ -53,7 +45,7 @@ pub fn run_json<
 /// The same, but a fault's object has the name of its task.
 pub fn run_json_named<
     J: Told,
-    R: RandomSource + Threads + Wait + Sync,
+    R: Threads + Wait + Sync,
     T: Feed,
     C: Feed,
     G: Gate,
@@ -94,14 +86,7 @@ pub fn run_json_named<
 
 /// Reads the trace to its end, then the companion, and judges them; a fault's object has the name of its task. What was
 /// read is kept beside the outcome.
-pub fn judge_json<
-    J: Told,
-    R: RandomSource + Threads + Wait + Sync,
-    T: Feed,
-    C: Feed,
-    G: Gate,
-    N: TaskNaming<T>,
->(
+pub fn judge_json<J: Told, R: Threads + Wait + Sync, T: Feed, C: Feed, G: Gate, N: TaskNaming<T>>(
     rt: &R,
     alloc: Global,
     trace: &mut T,

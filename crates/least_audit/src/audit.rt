@@ -6,7 +6,6 @@ use crate::pursuers::{pursue_all, pursuers_of};
 use cfs_model::{Knobs, Memory, least_settings, prefixes};
 use companion_file::Companion;
 use least_places::LeastFigures;
-use pid_table::PidHasher;
 use replay_laws::first_faults;
 use replay_model::{FirstFault, Step};
 use sched_record::Window;
@@ -36,12 +35,8 @@ impl LeastAudit {
     ghost use Rattle.sched_record.specs.Record.{RecordView};
     ghost use Rattle.window_audit.specs.Audit.{Beginning};
 
-    /// The audit before the first window, from a start state on. Pids are hashed by these keys.
-    pub fn new(
-        alloc: Global,
-        companion: &Companion,
-        hasher: PidHasher,
-    ) -> Result<LeastAudit, Memory>
+    /// The audit before the first window, from a start state on.
+    pub fn new(alloc: Global, companion: &Companion) -> Result<LeastAudit, Memory>
         ensures { let of = companion_view companion.now in
             IfOk result (IsLeastAuditOf (record {
               knobs = greatest_settings;
@@ -52,8 +47,8 @@ impl LeastAudit {
             }) []) }
     {
         Ok(LeastAudit {
-            audit: WindowAudit::new(alloc, companion, Knobs::greatest(), hasher)?,
-            pursuers: pursuers_of(alloc, companion, hasher)?,
+            audit: WindowAudit::new(alloc, companion, Knobs::greatest())?,
+            pursuers: pursuers_of(alloc, companion)?,
             figures: Figures::none(),
             steps: Vec::new(alloc),
         })

@@ -16,18 +16,13 @@ use crate::pursuer::{Idling, Pursuer, RiseAt};
 use crate::rise::Rises;
 use cfs_model::{Amounts, Knobs, Memory, Setting};
 use companion_file::Companion;
-use pid_table::PidHasher;
 use queue_replay::WindowedReplay;
 use replay_model::Step;
 use sched_record::{Window, deal_start};
 use std::alloc::Global;
 
 /// One for each processor of a start state, before the first window.
-pub(crate) fn pursuers_of(
-    alloc: Global,
-    companion: &Companion,
-    hasher: PidHasher,
-) -> Result<Vec<Pursuer>, Memory>
+pub(crate) fn pursuers_of(alloc: Global, companion: &Companion) -> Result<Vec<Pursuer>, Memory>
     ensures count { IfOk result (λ pursuers. length pursuers.items ≡ (companion_view companion.now).cpus) }
     ensures own { IfOk result (λ pursuers. (cpu : ℕ) → cpu < length pursuers.items
         → IsOwn greatest_settings cpu 0 (view_at pursuers.items cpu)) }
@@ -39,18 +34,13 @@ pub(crate) fn pursuers_of(
 {
     let mut pursuers = Vec::new(alloc);
     for cpu in 0..companion.cpus() {
-        pursuers.push(pursuer_of(alloc, companion, cpu, hasher)?)?;
+        pursuers.push(pursuer_of(alloc, companion, cpu)?)?;
     }
     Ok(pursuers)
 }
 
 /// That of one processor.
-fn pursuer_of(
-    alloc: Global,
-    companion: &Companion,
-    cpu: u32,
-    hasher: PidHasher,
-) -> Result<Pursuer, Memory>
+fn pursuer_of(alloc: Global, companion: &Companion, cpu: u32) -> Result<Pursuer, Memory>
     requires { cpu < (companion_view companion.now).cpus }
     ensures own { IfOk result (λ pursuer. IsOwn greatest_settings cpu 0 (windowed_view pursuer.replay)) }
     ensures start { let of = companion_view companion.now in
@@ -60,7 +50,7 @@ fn pursuer_of(
 {
     let stream = deal_start(alloc, companion, cpu)?;
     Ok(Pursuer {
-        replay: WindowedReplay::new(alloc, &stream, Knobs::greatest(), hasher)?,
+        replay: WindowedReplay::new(alloc, &stream, Knobs::greatest())?,
         rises: Rises::none(),
     })
 }

@@ -5,7 +5,6 @@ ghost use Rattle.sched_record.specs.Record.{record_view};
 use crate::LeastAudit;
 use cfs_model::{Memory, least_settings};
 use least_places::LeastFigures;
-use pid_table::PidHasher;
 use replay_laws::first_faults;
 use sched_record::{Record, Window};
 use std::alloc::Global;
@@ -17,7 +16,6 @@ pub fn least_in_windows<R: Threads + Sync>(
     rt: &R,
     alloc: Global,
     joined: &Record,
-    hasher: PidHasher,
     size: usize,
 ) -> Result<LeastFigures, Memory>
     requires { 0 < size }
@@ -28,7 +26,7 @@ pub fn least_in_windows<R: Threads + Sync>(
     least_settings();
     // There are no more events than lines.
     let _last = joined.last_line();
-    let mut audit = LeastAudit::new(alloc, joined.companion(), hasher)?;
+    let mut audit = LeastAudit::new(alloc, joined.companion())?;
     let mut window = Window::new(alloc);
     let count = joined.events().len();
     let mut from = 0;

@@ -11,18 +11,16 @@ use crate::placing::{lessened, place_by};
 use crate::{LeastFigures, Place, Places};
 use audit_crew::{Gate, crew};
 use cfs_model::{Knobs, Memory, Setting};
-use pid_table::PidHasher;
 use queue_replay::Page;
 use sched_record::Record;
 use std::alloc::Global;
-use std::random::RandomSource;
 use std::sync::Wait;
 use std::thread::Threads;
 use ticket_book::{LeastSettings, first_fault_by};
 
 /// The least settings of a record and their places, by the pages of a crew that passes this gate. For each figure above
 /// 0 those processors are replayed once more that need so much, up to their first fault with a nanosecond less.
-pub fn least_figures<R: RandomSource + Threads + Wait + Sync, G: Gate>(
+pub fn least_figures<R: Threads + Wait + Sync, G: Gate>(
     rt: &R,
     alloc: Global,
     joined: &Record,
@@ -32,12 +30,11 @@ pub fn least_figures<R: RandomSource + Threads + Wait + Sync, G: Gate>(
 {
     let book = crew(rt, alloc, joined, Knobs::greatest(), gate)?.book;
     let (closed, pages) = book.close_least_by_pages(joined)?;
-    figures_of(rt, alloc, joined, &closed.least, pages.as_slice())
+    figures_of(alloc, joined, &closed.least, pages.as_slice())
 }
 
 /// A record's least settings with their places, by the pages behind them.
-fn figures_of<R: RandomSource>(
-    rt: &R,
+fn figures_of(
     alloc: Global,
     joined: &Record,
     least: &LeastSettings,
@@ -49,7 +46,7 @@ fn figures_of<R: RandomSource>(
 {
     match least {
         LeastSettings::Found(knobs) => {
-            let places = places_of(rt, alloc, joined, *knobs, pages)?;
+            let places = places_of(alloc, joined, *knobs, pages)?;
             Ok(LeastFigures::Found {
                 knobs: *knobs,
                 places,
@@ -60,29 +57,22 @@ fn figures_of<R: RandomSource>(
 }
 
 /// The places of a record's least settings.
-fn places_of<R: RandomSource>(
-    rt: &R,
-    alloc: Global,
-    joined: &Record,
-    knobs: Knobs,
-    pages: &[Page],
-) -> Result<Places, Memory>
+fn places_of(alloc: Global, joined: &Record, knobs: Knobs, pages: &[Page]) -> Result<Places, Memory>
     requires least { settings.IsLeastAnswer (record_view joined.now) (leasts.Found knobs) }
     requires faultless { AreFaultless (record_view joined.now) pages.now }
     ensures { IfOk result (ArePlaces (record_view joined.now) knobs) }
 {
     Ok(Places {
-        granularity: place_of(rt, alloc, joined, knobs, pages, Setting::Granularity)?,
-        credit: place_of(rt, alloc, joined, knobs, pages, Setting::Credit)?,
-        debit: place_of(rt, alloc, joined, knobs, pages, Setting::Debit)?,
-        slack: place_of(rt, alloc, joined, knobs, pages, Setting::Slack)?,
-        drift: place_of(rt, alloc, joined, knobs, pages, Setting::Drift)?,
+        granularity: place_of(alloc, joined, knobs, pages, Setting::Granularity)?,
+        credit: place_of(alloc, joined, knobs, pages, Setting::Credit)?,
+        debit: place_of(alloc, joined, knobs, pages, Setting::Debit)?,
+        slack: place_of(alloc, joined, knobs, pages, Setting::Slack)?,
+        drift: place_of(alloc, joined, knobs, pages, Setting::Drift)?,
     })
 }
 
 /// The place of a setting's figure among a record's least settings.
-fn place_of<R: RandomSource>(
-    rt: &R,
+fn place_of(
     alloc: Global,
     joined: &Record,
     knobs: Knobs,
@@ -97,7 +87,7 @@ fn place_of<R: RandomSource>(
         return Ok(None);
     }
     let less = lessened(knobs, setting);
-    let fault = first_fault_by(alloc, pages, joined, less, PidHasher::random(rt))?;
-    let place = place_by(rt, alloc, joined, knobs, setting, fault)?;
+    let fault = first_fault_by(alloc, pages, joined, less)?;
+    let place = place_by(alloc, joined, knobs, setting, fault)?;
     Ok(Some(place))
 }

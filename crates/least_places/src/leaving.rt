@@ -7,18 +7,15 @@ ghost use Rattle.ticket_book.specs.LeastAnswer as settings;
 ghost use Rattle.ticket_book.specs.declared.least_settings.LeastSettings.TheVariants as leasts;
 
 use cfs_model::{Act, Entry, Knobs, Memory, Setting, places, prefixes};
-use pid_table::PidHasher;
 use queue_replay::Replay;
 use replay_laws::replays;
 use replay_model::Step;
 use sched_record::Record;
 use std::alloc::Global;
-use std::random::RandomSource;
 
 /// Whom the picked task was above, at the place of a granularity among a record's least settings. Other settings'
 /// places have nobody.
-pub(crate) fn over<R: RandomSource>(
-    rt: &R,
+pub(crate) fn over(
     alloc: Global,
     joined: &Record,
     knobs: Knobs,
@@ -29,14 +26,13 @@ pub(crate) fn over<R: RandomSource>(
     ensures { IfOk result (IsOver (record_view joined.now) knobs setting line) }
 {
     match setting {
-        Setting::Granularity => left_on_line(rt, alloc, joined, knobs, line),
+        Setting::Granularity => left_on_line(alloc, joined, knobs, line),
         Setting::Credit | Setting::Debit | Setting::Slack | Setting::Drift => Ok(None),
     }
 }
 
 /// Whom the event on a line leaves waiting: at a switch the least who waits at its processor.
-fn left_on_line<R: RandomSource>(
-    rt: &R,
+fn left_on_line(
     alloc: Global,
     joined: &Record,
     knobs: Knobs,
@@ -46,7 +42,7 @@ fn left_on_line<R: RandomSource>(
     ensures { IfOk result (IsLeftOnLine (record_view joined.now) knobs line) }
 {
     match switched_on(joined.events(), line) {
-        Some(cpu) => left_behind(rt, alloc, joined, knobs, cpu, line),
+        Some(cpu) => left_behind(alloc, joined, knobs, cpu, line),
         None => Ok(None),
     }
 }
@@ -74,8 +70,7 @@ fn switched(act: Act) -> Option<u32>
 }
 
 /// The least of those who wait at a processor behind the event on a line, if anybody does.
-fn left_behind<R: RandomSource>(
-    rt: &R,
+fn left_behind(
     alloc: Global,
     joined: &Record,
     knobs: Knobs,
@@ -91,7 +86,7 @@ fn left_behind<R: RandomSource>(
     replays();
     let stream = joined.deal(cpu)?;
     let steps = count_to(stream.steps(), line);
-    let mut replay = match Replay::with_hasher(alloc, stream, knobs, PidHasher::random(rt)) {
+    let mut replay = match Replay::new(alloc, stream, knobs) {
         Ok(replay) => replay,
         Err((_, memory)) => return Err(memory),
     };

@@ -15,7 +15,6 @@ use cfs_model::{Entry, Knobs, Memory, Setting, least_settings, prefixes};
 use replay_model::FirstFault;
 use sched_record::Record;
 use std::alloc::Global;
-use std::random::RandomSource;
 
 /// These settings, but for a nanosecond less of one.
 pub(crate) fn lessened(knobs: Knobs, setting: Setting) -> Knobs
@@ -28,8 +27,7 @@ pub(crate) fn lessened(knobs: Knobs, setting: Setting) -> Knobs
 }
 
 /// The place of a figure above 0, by what is wrong first with the record at a nanosecond less.
-pub(crate) fn place_by<R: RandomSource>(
-    rt: &R,
+pub(crate) fn place_by(
     alloc: Global,
     joined: &Record,
     knobs: Knobs,
@@ -43,7 +41,7 @@ pub(crate) fn place_by<R: RandomSource>(
 {
     match fault {
         Some(fault) => {
-            let over = over(rt, alloc, joined, knobs, setting, fault.line)?;
+            let over = over(alloc, joined, knobs, setting, fault.line)?;
             Ok(place_at_fault(joined, knobs, setting, fault, over))
         }
         // With less than the least it is no run.

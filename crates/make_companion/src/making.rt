@@ -9,11 +9,9 @@ use clap::error::ErrorKind::OutOfMemory;
 use companion_guess::{KernelValues, Wishes};
 use companion_maker::{Heard, Hearing, NotMade, companion_of_trace, hear_trace};
 use given_texts::{StandardInput, open_input, read_input};
-use pid_table::PidHasher;
 use sched_record::{JoinCause, TraceFault};
 use std::alloc::Global;
 use std::io::{ErrorKind, Write};
-use std::random::RandomSource;
 use std::rt::{Env, Files, Stdin};
 use std::thread::Threads;
 use std::{env, io};
@@ -22,7 +20,7 @@ use std::{env, io};
 const BLOCK: u32 = 1 << 18;
 
 /// Does what the command line says.
-pub fn obey<R: Env + Files + Print + Eprint + RandomSource + Threads + Sync + AllocGlobal>(
+pub fn obey<R: Env + Files + Print + Eprint + Threads + Sync + AllocGlobal>(
     rt: &R,
     alloc: Global,
     stdin: Stdin,
@@ -47,7 +45,7 @@ fn words_of<R: Env + AllocGlobal>(rt: &R, alloc: Global) -> io::Result<Vec<Strin
 }
 
 /// Makes the companion, and writes it to standard output.
-fn make<R: Files + Print + Eprint + RandomSource + Threads + Sync + AllocGlobal>(
+fn make<R: Files + Print + Eprint + Threads + Sync + AllocGlobal>(
     rt: &R,
     alloc: Global,
     stdin: Stdin,
@@ -90,7 +88,7 @@ fn ending_of(error: &io::Error, unread: Ending) -> Ending {
 }
 
 /// Writes the companion of what was heard to standard output. The trace's text began like this.
-fn write_companion<R: Print + Eprint + RandomSource + Threads + Sync + AllocGlobal>(
+fn write_companion<R: Print + Eprint + Threads + Sync + AllocGlobal>(
     rt: &R,
     alloc: Global,
     front: &[u8],
@@ -107,7 +105,7 @@ fn write_companion<R: Print + Eprint + RandomSource + Threads + Sync + AllocGlob
     };
     let is_empty = trace.events().is_empty();
     let values = KernelValues::told(prints, debug);
-    match companion_of_trace(rt, alloc, trace, values, wishes, PidHasher::random(rt)) {
+    match companion_of_trace(rt, alloc, trace, values, wishes) {
         Ok(made) => {
             if made.guess.is_none() {
                 let _ = eprintln!(rt;

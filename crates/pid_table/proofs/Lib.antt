@@ -1,3 +1,2 @@
-mod Entries
 pub mod Indices
-mod Marks
+mod Nodes

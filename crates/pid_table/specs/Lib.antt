@@ -1,4 +1,3 @@
 pub mod Rows
 pub mod Lends
-pub mod Marks
-pub mod Hash
+pub mod Places

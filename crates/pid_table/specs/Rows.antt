@@ -8,7 +8,7 @@ pub record Rows (V : Type 0) : Type 0 where
   pub pids : List ℕ
   -- in the order of their pids
   pub rows : List V
-  -- how many more fit without memory
+  -- how many more surely fit without memory
   pub room : ℕ
 
 abbrev pub rows_code : {V : Type 0} → Coded V → Coded (Rows V)

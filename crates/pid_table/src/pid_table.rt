@@ -1,47 +1,51 @@
-ghost use Rattle.std.specs.Prelude.{◌≡◌, ◌∷◌, ◌++◌, ◌<◌, [], None, Some, IfSome, OnOk, length, slice_get};
+ghost use Rattle.std.specs.Prelude.{◌≡◌, ◌∷◌, ◌++◌, ◌<◌, [], None, Some, true, IfSome, OnOk, length, slice_get};
 ghost use Rattle.std.specs.Borrow.{sem};
 ghost use Rattle.pid_table.specs.Rows.{AreSound, index_in};
 
-use crate::PidHasher;
-use crate::pid_marks::PidMarks;
-use indexmap::IndexMap;
+use crate::pid_places::PidPlaces;
 use std::alloc::{AllocError, Global};
 use std::marker::Model;
 
 /// A row for each pid, in the order in which the pids were named. A contract sees the pids and their rows side by side,
-/// and how many more fit.
+/// and whether one more fits.
 #[derive(Debug, Drop)]
 pub struct PidTable<V> {
-    map: IndexMap<u32, V, PidHasher>,
-    /// Of the pids that the map has: most that it doesn't have are told by these, without a look at its hashes.
-    marks: PidMarks,
+    pids: Vec<u32>,
+    rows: Vec<V>,
+    /// Where the row of each pid is looked for.
+    places: PidPlaces,
 }
 
 impl<V> Model for PidTable<V> {
-    ghost use Rattle.indexmap.specs.IndexMap.{keys, values, spare};
     ghost use Rattle.pid_table.specs.Rows.{Rows, rows_code};
-    ghost use Rattle.pid_table.specs.Marks.{AreMarked};
+    ghost use Rattle.std.specs.Prelude.{◌-◌, vec_len, vec_capacity};
+    ghost use Rattle.pid_table.specs.Places.{IsTable, room_beside};
 
     ghost Value = { Rows V };
 
     ghost coded = { rows_code V.code };
 
-    ghost view = { λ t. record { pids = keys t.map; rows = values t.map; room = spare t.map } };
+    ghost view = { λ t. record {
+      pids = t.pids.items;
+      rows = t.rows.items;
+      room = room_beside t.places (vec_capacity t.pids - vec_len t.pids) (vec_capacity t.rows - vec_len t.rows);
+    } };
 
-    ghost invariant = { λ t. AreMarked t.marks (keys t.map) };
+    ghost invariant = { λ t. IsTable t.pids.items t.rows.items t.places };
 }
 
 impl<V> PidTable<V> {
     ghost use Rattle.pid_table.specs.Lends.{LendsRow};
 
     /// No row. Takes no memory.
-    pub fn new(alloc: Global, hasher: PidHasher) -> Self
+    pub fn new(alloc: Global) -> Self
         ensures pids { result.pids ≡ [] }
         ensures rows { result.rows ≡ [] }
     {
         Self {
-            map: IndexMap::with_hasher(alloc, hasher),
-            marks: PidMarks::new(alloc),
+            pids: Vec::new(alloc),
+            rows: Vec::new(alloc),
+            places: PidPlaces::new(alloc),
         }
     }
 
@@ -50,7 +54,7 @@ impl<V> PidTable<V> {
         ensures pids { result.now ≡ self.now.pids }
         ensures sound { AreSound self.now }
     {
-        self.map.keys().as_slice()
+        &self.pids
     }
 
     /// The rows, in the order of their pids.
@@ -58,8 +62,7 @@ impl<V> PidTable<V> {
         ensures rows { result.now ≡ self.now.rows }
         ensures sound { AreSound self.now }
     {
-        let entries = self.map.as_slice();
-        entries.values().as_slice()
+        &self.rows
     }
 
     /// Where the row of a pid is, if it has one.
@@ -69,35 +72,48 @@ impl<V> PidTable<V> {
         ensures within { IfSome result (λ index. index < length self.now.rows) }
         ensures sound { AreSound self.now }
     {
-        if !self.marks.may_have(pid) {
+        let place = self.places.place_of(pid) as usize;
+        if place == 0 {
             return None;
         }
-        self.index_by_hash(pid)
+        if self.stands_at(pid, place - 1) {
+            return Some(place - 1);
+        }
+        self.index_by_search(pid)
     }
 
-    /// The same by the pid's hash, whether it is marked or not.
-    #[inline(never)]
-    fn index_by_hash(&self, pid: u32) -> Option<usize>
-        ensures index { result ≡ index_in self.now.pids pid }
-        ensures within { IfSome result (λ index. index < length self.now.rows) }
-        ensures sound { AreSound self.now }
-    {
-        self.map.get_index_of(&pid)
-    }
-
-    /// The same, where the row is expected at an index: it is looked at before the pid is hashed.
-    #[tactic(auto, using(crate::proofs::Indices::index_there))]
+    /// The same, where the row is expected at an index: it is looked at first.
     #[inline(always)]
     pub fn index_near(&self, expected: usize, pid: u32) -> Option<usize>
         ensures index { result ≡ index_in self.now.pids pid }
         ensures within { IfSome result (λ index. index < length self.now.rows) }
         ensures sound { AreSound self.now }
     {
-        let pids = self.pids();
-        if expected < pids.len() && pids[expected] == pid {
+        if self.stands_at(pid, expected) {
             return Some(expected);
         }
         self.index_of(pid)
+    }
+
+    /// Whether a pid stands at an index.
+    #[inline(always)]
+    fn stands_at(&self, pid: u32, index: usize) -> bool
+        ensures index { result ≡ true → index_in self.now.pids pid ≡ Some index }
+        ensures within { result ≡ true → index < length self.now.rows }
+        ensures sound { AreSound self.now }
+    {
+        index < self.pids.len() && self.pids[index] == pid
+    }
+
+    /// The same as `index_of`, by going through all pids: for one whose place another has, which only a pid above 2^22
+    /// can come to.
+    #[inline(never)]
+    fn index_by_search(&self, pid: u32) -> Option<usize>
+        ensures index { result ≡ index_in self.now.pids pid }
+        ensures within { IfSome result (λ index. index < length self.now.rows) }
+        ensures sound { AreSound self.now }
+    {
+        self.pids.iter().position(|other| *other == pid)
     }
 
     /// The row at an index, to be changed.
@@ -106,7 +122,7 @@ impl<V> PidTable<V> {
         ensures* writes_back { sem 𝓛 (LendsRow V.row self.entry index result) }
         ensures value { slice_get self.old.rows index ≡ Some result.now }
     {
-        &mut self.map[index]
+        &mut self.rows[index]
     }
 
     /// Makes room for one more row.
@@ -116,11 +132,9 @@ impl<V> PidTable<V> {
         ensures rows { self.new.rows ≡ self.old.rows }
         ensures sound { AreSound self.new }
     {
-        // New marks have no pid, so they are for a table that has no row.
-        if self.map.is_empty() {
-            self.marks.make_room()?;
-        }
-        self.map.reserve(1)
+        self.places.make_room()?;
+        self.pids.reserve(1)?;
+        self.rows.reserve(1)
     }
 
     /// Adds a row behind the last, for a pid that has none. Takes no memory.
@@ -133,10 +147,9 @@ impl<V> PidTable<V> {
         ensures rows { self.new.rows ≡ self.old.rows ++ row ∷ [] }
         ensures sound { AreSound self.new }
     {
-        self.marks.mark(pid);
-        match self.map.insert(pid, row) {
-            Ok(_none) => {}
-            Err(_pair) => unreachable!(),
-        }
+        self.pids.push_reserved(pid);
+        self.rows.push_reserved(row);
+        let place = self.pids.len().min(u32::MAX as usize);
+        self.places.put(pid, place as u32);
     }
 }

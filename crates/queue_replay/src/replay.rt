@@ -11,7 +11,6 @@ use crate::replay_state::ReplayState;
 use crate::running::{make_steps, start};
 use crate::state::State;
 use cfs_model::{Knobs, Memory};
-use pid_table::PidHasher;
 use processor_stream::Stream;
 use runqueue::Runqueue;
 use std::alloc::Global;
@@ -47,7 +46,7 @@ impl Model for Replay {
 
 impl Replay {
     /// The replay before its first step; on a stream without steps, after the end test. Where memory is wanted the
-    /// stream comes back. Pids are hashed by fixed keys: where somebody picks them, give `with_hasher` random ones.
+    /// stream comes back.
     pub fn new(alloc: Global, stream: Stream, knobs: Knobs) -> Result<Replay, (Stream, Memory)>
         ensures stream { IfOk result (λ replay. replay.stream ≡ stream_view stream) }
         ensures knobs { IfOk result (λ replay. replay.knobs ≡ knobs) }
@@ -55,23 +54,7 @@ impl Replay {
         ensures page { IfOk result (λ replay. IsPageOf replay.stream replay.knobs replay.made replay.page) }
         ensures back { IfErr result (λ back. back.0 ≡ stream) }
     {
-        Replay::with_hasher(alloc, stream, knobs, PidHasher::fixed())
-    }
-
-    /// The same, with the keys by which pids are hashed.
-    pub fn with_hasher(
-        alloc: Global,
-        stream: Stream,
-        knobs: Knobs,
-        hasher: PidHasher,
-    ) -> Result<Replay, (Stream, Memory)>
-        ensures stream { IfOk result (λ replay. replay.stream ≡ stream_view stream) }
-        ensures knobs { IfOk result (λ replay. replay.knobs ≡ knobs) }
-        ensures made { IfOk result (λ replay. replay.made ≡ 0) }
-        ensures page { IfOk result (λ replay. IsPageOf replay.stream replay.knobs replay.made replay.page) }
-        ensures back { IfErr result (λ back. back.0 ≡ stream) }
-    {
-        match start(alloc, &stream, knobs, hasher) {
+        match start(alloc, &stream, knobs) {
             Ok(state) => Ok(Replay {
                 stream,
                 knobs,

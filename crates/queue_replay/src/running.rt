@@ -17,7 +17,6 @@ use crate::page_draft::PageDraft;
 use crate::replay_state::{ReplayState, idle_deadline, idled_time, since_after};
 use crate::row_tallies::RowTallies;
 use cfs_model::{Amounts, IDLE_PID, Kind, Knobs, Memory, NO_LINE};
-use pid_table::PidHasher;
 use processor_stream::Stream;
 use replay_model::{Step, StepFault};
 use runqueue::Runqueue;
@@ -147,16 +146,11 @@ pub(crate) fn go_through(
 }
 
 /// The state before the first step; on a stream without steps, after the end test.
-pub(crate) fn start(
-    alloc: Global,
-    stream: &Stream,
-    knobs: Knobs,
-    hasher: PidHasher,
-) -> Result<ReplayState, Memory>
+pub(crate) fn start(alloc: Global, stream: &Stream, knobs: Knobs) -> Result<ReplayState, Memory>
     ensures at { IfOk result (λ state. IsAt (stream_view stream.now) knobs state) }
     ensures made { IfOk result (λ state. state.made ≡ 0) }
 {
-    let mut state = before_steps(alloc, stream, hasher)?;
+    let mut state = before_steps(alloc, stream)?;
     if stream.steps().is_empty() {
         end_test(stream, knobs, &mut state);
     }
@@ -164,23 +158,13 @@ pub(crate) fn start(
 }
 
 /// The state before the first step.
-pub(crate) fn before_steps(
-    alloc: Global,
-    stream: &Stream,
-    hasher: PidHasher,
-) -> Result<ReplayState, Memory>
+pub(crate) fn before_steps(alloc: Global, stream: &Stream) -> Result<ReplayState, Memory>
     ensures made { IfOk result (λ state. state.made ≡ 0) }
     ensures start { IfOk result (λ state. IsStartOf (stream_view stream.now) (replay_state_view state)) }
     ensures going { IfOk result IsGoing }
     ensures needs { IfOk result (λ state. state.needs ≡ only_slack 0) }
 {
-    let queue = Runqueue::of_tasks(
-        alloc,
-        hasher,
-        stream.tasks(),
-        stream.floor(),
-        stream.start(),
-    )?;
+    let queue = Runqueue::of_tasks(alloc, stream.tasks(), stream.floor(), stream.start())?;
     let since = since_after(None, stream.start(), &queue);
     let tallies = RowTallies::of_pids(alloc, queue.pids())?;
     Ok(state_before(alloc, queue, since, tallies))

@@ -5,7 +5,7 @@ ghost use Rattle.queue_replay.specs.Indices.{AreApart, AreOwn, AreOwn-prop};
 
 use crate::counting::new_tally;
 use cfs_model::Memory;
-use pid_table::{PidHasher, PidTable};
+use pid_table::PidTable;
 use replay_model::Tally;
 use std::alloc::Global;
 
@@ -19,11 +19,11 @@ pub struct TallyBook {
 
 impl TallyBook {
     /// No tally.
-    pub fn new(alloc: Global, hasher: PidHasher) -> TallyBook
+    pub fn new(alloc: Global) -> TallyBook
         ensures { result.table.rows ≡ [] }
     {
         TallyBook {
-            table: PidTable::new(alloc, hasher),
+            table: PidTable::new(alloc),
         }
     }
 

@@ -5,7 +5,6 @@ use crate::replay_state::ReplayState;
 use crate::row_tallies::RowTallies;
 use crate::running::{before_steps, end_window, go_through, state_before};
 use cfs_model::{Amounts, Knobs, Memory};
-use pid_table::PidHasher;
 use processor_stream::Stream;
 use replay_model::{LifeEvent, Step, StepFault, Tally, Ticket};
 use runqueue::Runqueue;
@@ -31,12 +30,7 @@ impl WindowedReplay {
     ghost use Rattle.runqueue.specs.Queue.{runqueue_view};
 
     /// The replay before its first step, of the processor of a stream, whose steps aren't read.
-    pub fn new(
-        alloc: Global,
-        stream: &Stream,
-        knobs: Knobs,
-        hasher: PidHasher,
-    ) -> Result<WindowedReplay, Memory>
+    pub fn new(alloc: Global, stream: &Stream, knobs: Knobs) -> Result<WindowedReplay, Memory>
         ensures cpu { IfOk result (λ replay. (windowed_view replay).cpu ≡ (stream_view stream.now).cpu) }
         ensures knobs { IfOk result (λ replay. (windowed_view replay).knobs ≡ knobs) }
         ensures made { IfOk result (λ replay. (windowed_view replay).made ≡ 0) }
@@ -46,7 +40,7 @@ impl WindowedReplay {
         Ok(WindowedReplay {
             cpu: stream.cpu(),
             knobs,
-            state: before_steps(alloc, stream, hasher)?,
+            state: before_steps(alloc, stream)?,
         })
     }
 

@@ -1,6 +1,5 @@
 use crate::RecentPast;
 use cfs_model::{Knobs, Memory};
-use pid_table::PidHasher;
 use queue_replay::WindowedReplay;
 use replay_model::FirstFault;
 use sched_record::{Record, Window, deal_start};
@@ -8,17 +7,15 @@ use std::alloc::Global;
 use stream_audit::Past;
 
 impl RecentPast {
-    /// All that was before the first fault of a record which is kept, replayed under these settings; pids are hashed by
-    /// these keys.
+    /// All that was before the first fault of a record which is kept, replayed under these settings.
     pub fn of_record(
         alloc: Global,
         joined: &Record,
         knobs: Knobs,
-        hasher: PidHasher,
         fault: FirstFault,
     ) -> Result<RecentPast, Memory> {
-        let mut past = RecentPast::new(alloc, knobs, hasher);
-        past.note_start(alloc, joined, knobs, hasher)?;
+        let mut past = RecentPast::new(alloc, knobs);
+        past.note_start(alloc, joined, knobs)?;
         let mut window = Window::new(alloc);
         let count = joined
             .events()
@@ -29,17 +26,11 @@ impl RecentPast {
     }
 
     /// Notes how the processors of a record stand at its start.
-    fn note_start(
-        &mut self,
-        alloc: Global,
-        joined: &Record,
-        knobs: Knobs,
-        hasher: PidHasher,
-    ) -> Result<(), Memory> {
+    fn note_start(&mut self, alloc: Global, joined: &Record, knobs: Knobs) -> Result<(), Memory> {
         let mut replays = Vec::new(alloc);
         for cpu in 0..joined.cpus() {
             let stream = deal_start(alloc, joined.companion(), cpu)?;
-            replays.push(WindowedReplay::new(alloc, &stream, knobs, hasher)?)?;
+            replays.push(WindowedReplay::new(alloc, &stream, knobs)?)?;
         }
         let mut lent = Vec::new(alloc);
         for replay in &replays {

@@ -1,6 +1,6 @@
 use crate::Placing;
 use cfs_model::{Claim, Entry};
-use pid_table::{PidHasher, PidTable};
+use pid_table::PidTable;
 use std::alloc::{AllocError, Global};
 
 /// Tasks of which it is sought how they were placed.
@@ -16,9 +16,9 @@ pub(crate) struct Pending {
 
 impl Pending {
     /// Of no task.
-    pub(crate) fn new(alloc: Global, hasher: PidHasher) -> Pending {
+    pub(crate) fn new(alloc: Global) -> Pending {
         Pending {
-            tasks: PidTable::new(alloc, hasher),
+            tasks: PidTable::new(alloc),
             left: 0,
             found: Vec::new(alloc),
         }

@@ -1,5 +1,4 @@
 use cfs_model::{Knobs, Memory};
-use pid_table::PidHasher;
 use queue_replay::WindowedReplay;
 use replay_model::Step;
 use runqueue::Runqueue;
@@ -16,10 +15,10 @@ pub struct ProcessorState {
 
 impl ProcessorState {
     /// A processor where nobody stands, with its mark at this time, in nanoseconds.
-    pub(crate) fn nobody(alloc: Global, hasher: PidHasher, cpu: u32, mark: u64) -> ProcessorState {
+    pub(crate) fn nobody(alloc: Global, cpu: u32, mark: u64) -> ProcessorState {
         ProcessorState {
             cpu,
-            queue: Runqueue::empty(alloc, hasher, 0, mark),
+            queue: Runqueue::empty(alloc, 0, mark),
             since: None,
         }
     }

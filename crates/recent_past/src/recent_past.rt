@@ -4,7 +4,7 @@ use crate::standing::Standing;
 use crate::{Beside, Moment, Placing, ProcessorState};
 use cfs_model::{Entry, IdleLine, Knobs, Memory, Place};
 use companion_file::Companion;
-use pid_table::{PidHasher, PidTable};
+use pid_table::PidTable;
 use queue_replay::WindowedReplay;
 use replay_model::{FirstFault, Step};
 use sched_record::{Saying, Window};
@@ -23,7 +23,6 @@ const TASKS_AN_EVENT: usize = 4;
 pub struct RecentPast {
     alloc: Global,
     knobs: Knobs,
-    hasher: PidHasher,
     keeps: bool,
     cpus: u32,
     /// The time of the start, in nanoseconds.
@@ -40,18 +39,17 @@ pub struct RecentPast {
 }
 
 impl RecentPast {
-    /// Before the first event of a record that is replayed under these settings; pids are hashed by these keys.
-    pub fn new(alloc: Global, knobs: Knobs, hasher: PidHasher) -> RecentPast {
+    /// Before the first event of a record that is replayed under these settings.
+    pub fn new(alloc: Global, knobs: Knobs) -> RecentPast {
         RecentPast {
             alloc,
             knobs,
-            hasher,
             keeps: true,
             cpus: 0,
             start: 0,
             earlier: Segment::empty(alloc),
             latest: Segment::empty(alloc),
-            placings: PidTable::new(alloc, hasher),
+            placings: PidTable::new(alloc),
             switches: Vec::new(alloc),
             fault: None,
             idle: None,
@@ -60,7 +58,7 @@ impl RecentPast {
 
     /// One that keeps nothing.
     pub fn unkept(alloc: Global) -> RecentPast {
-        let mut past = RecentPast::new(alloc, Knobs::standard(), PidHasher::fixed());
+        let mut past = RecentPast::new(alloc, Knobs::standard());
         past.keeps = false;
         past
     }
@@ -85,11 +83,11 @@ impl RecentPast {
 
     /// Notes how those were placed who wait since before the latest segment, and of nobody else.
     fn note_placings(&mut self, standings: &[Standing]) -> Result<(), Memory> {
-        let mut pending = Pending::new(self.alloc, self.hasher);
+        let mut pending = Pending::new(self.alloc);
         push_waiting(standings, &mut pending)?;
         self.latest.seek(u32::MAX, &mut pending)?;
         if pending.is_over() {
-            self.placings = PidTable::new(self.alloc, self.hasher);
+            self.placings = PidTable::new(self.alloc);
             return Ok(());
         }
         pending.found.clear();
@@ -103,7 +101,7 @@ impl RecentPast {
 
     /// Keeps what is noted of these tasks, and lets go the rest.
     fn keep_placings(&mut self, pids: &[u32]) -> Result<(), AllocError> {
-        let noted = mem::replace(&mut self.placings, PidTable::new(self.alloc, self.hasher));
+        let noted = mem::replace(&mut self.placings, PidTable::new(self.alloc));
         for pid in pids {
             if let Some(index) = noted.index_of(*pid) {
                 self.note_placing(noted.rows()[index])?;
@@ -207,7 +205,7 @@ impl RecentPast {
         line: u32,
         pids: &[u32],
     ) -> Result<Vec<Placing>, Memory> {
-        let mut pending = Pending::new(self.alloc, self.hasher);
+        let mut pending = Pending::new(self.alloc);
         for pid in pids {
             pending.add(*pid)?;
         }
@@ -239,8 +237,8 @@ impl RecentPast {
             &self.earlier
         };
         match front.standings.get(cpu as usize) {
-            Some(standing) => standing.state(self.alloc, self.hasher),
-            None => Ok(ProcessorState::nobody(self.alloc, self.hasher, cpu, self.start)),
+            Some(standing) => standing.state(self.alloc),
+            None => Ok(ProcessorState::nobody(self.alloc, cpu, self.start)),
         }
     }
 

@@ -1,6 +1,5 @@
 use crate::ProcessorState;
 use cfs_model::{Memory, Place};
-use pid_table::PidHasher;
 use queue_replay::WindowedReplay;
 use runqueue::{Runqueue, SchedEntity};
 use std::alloc::{AllocError, Global};
@@ -51,8 +50,8 @@ impl Standing {
     }
 
     /// The processor, as it stood.
-    pub(crate) fn state(&self, alloc: Global, hasher: PidHasher) -> Result<ProcessorState, Memory> {
-        let mut queue = Runqueue::empty(alloc, hasher, self.floor, self.mark);
+    pub(crate) fn state(&self, alloc: Global) -> Result<ProcessorState, Memory> {
+        let mut queue = Runqueue::empty(alloc, self.floor, self.mark);
         for task in &self.tasks {
             put_in(&mut queue, *task)?;
         }

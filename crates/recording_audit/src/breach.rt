@@ -13,7 +13,6 @@ use crate::splitting::split_lines;
 use crate::watch::Watch;
 use cfs_model::Memory;
 use std::alloc::Global;
-use std::random::RandomSource;
 use std::sync::Wait;
 use std::thread::Threads;
 
@@ -31,7 +30,7 @@ impl Breach {
     /// Where a text was found to be no run up to this line. A fault may come of lines below it, which show how tasks
     /// stood at the start: where the lines up to it are a run by themselves, the breach is further down, and so many
     /// lines are tried that it is found by halving.
-    pub(crate) fn of<R: RandomSource + Threads + Wait + Sync, W: Watch>(
+    pub(crate) fn of<R: Threads + Wait + Sync, W: Watch>(
         rt: &R,
         alloc: Global,
         text: &[u8],

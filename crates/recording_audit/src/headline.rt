@@ -14,7 +14,6 @@ use crate::scanning::last_start;
 use crate::splitting::line_count;
 use crate::watch::Watch;
 use std::alloc::Global;
-use std::random::RandomSource;
 use std::sync::Wait;
 use std::thread::Threads;
 
@@ -26,7 +25,7 @@ const NEAR_REACH: usize = 1 << 14;
 
 /// Cuts a recording into parts, and judges each stretch by a companion that is made for it.
 #[tactic(auto, using(crate::proofs::Grown::grown))]
-pub fn audit_recording<'a, R: RandomSource + Threads + Wait + Sync, W: Watch>(
+pub fn audit_recording<'a, R: Threads + Wait + Sync, W: Watch>(
     rt: &R,
     alloc: Global,
     text: &'a [u8],

@@ -15,10 +15,8 @@ use audit_input::{Refused, record_of, tells_charges};
 use cfs_model::Memory;
 use companion_guess::{KernelValues, Prints};
 use companion_maker::{NotMade, companion_of_trace};
-use pid_table::PidHasher;
 use sched_record::{Trace, TraceFault, read_trace, read_trace_wide};
 use std::alloc::Global;
-use std::random::RandomSource;
 use std::sync::Wait;
 use std::thread::Threads;
 use ticket_book::LeastSettings;
@@ -35,7 +33,7 @@ pub(crate) enum Judged {
 }
 
 /// Judges a text, and says how far it is good.
-pub(crate) fn judge_watched<R: RandomSource + Threads + Wait + Sync, W: Watch>(
+pub(crate) fn judge_watched<R: Threads + Wait + Sync, W: Watch>(
     rt: &R,
     alloc: Global,
     text: &[u8],
@@ -58,7 +56,7 @@ fn good_bytes(text: &[u8], judged: &Judged) -> usize {
 }
 
 /// Makes a companion for a text, and judges it.
-fn judge<R: RandomSource + Threads + Wait + Sync>(
+fn judge<R: Threads + Wait + Sync>(
     rt: &R,
     alloc: Global,
     text: &[u8],
@@ -77,7 +75,7 @@ fn judge<R: RandomSource + Threads + Wait + Sync>(
 }
 
 /// The same of a text with this trace.
-fn judge_trace<R: RandomSource + Threads + Wait + Sync>(
+fn judge_trace<R: Threads + Wait + Sync>(
     rt: &R,
     alloc: Global,
     text: &[u8],
@@ -91,9 +89,8 @@ fn judge_trace<R: RandomSource + Threads + Wait + Sync>(
     if span.events == 0 {
         return Ok(Judged::Quiet);
     }
-    let hasher = PidHasher::random(rt);
     let values = kernel_values(alloc, text, asked)?;
-    match companion_of_trace(rt, alloc, trace, values, &asked.wishes, hasher) {
+    match companion_of_trace(rt, alloc, trace, values, &asked.wishes) {
         Ok(made) => judge_made(rt, alloc, text, made.text, span, asked),
         Err(NotMade::CpuOutside { line }) => Ok(Judged::Bad {
             line,
@@ -113,7 +110,7 @@ fn kernel_values(alloc: Global, text: &[u8], asked: &Asked<'_>) -> Result<Kernel
 }
 
 /// Judges a text by the companion that was made for it.
-fn judge_made<R: RandomSource + Threads + Wait + Sync>(
+fn judge_made<R: Threads + Wait + Sync>(
     rt: &R,
     alloc: Global,
     text: &[u8],

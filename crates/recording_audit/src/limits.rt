@@ -10,13 +10,12 @@ use cfs_model::{Knobs, Memory, Setting, least_settings};
 use replay_model::FirstFault;
 use sched_record::Record;
 use std::alloc::Global;
-use std::random::RandomSource;
 use std::sync::Wait;
 use std::thread::Threads;
 use ticket_book::Verdict;
 
 /// What is wrong first at the limits with a record that is a run just from these settings on.
-pub(crate) fn fault_over<R: RandomSource + Threads + Wait + Sync>(
+pub(crate) fn fault_over<R: Threads + Wait + Sync>(
     rt: &R,
     alloc: Global,
     joined: &Record,

@@ -19,7 +19,6 @@ use crate::splitting::{split_lines, split_near};
 use crate::watch::Watch;
 use cfs_model::Memory;
 use std::alloc::Global;
-use std::random::RandomSource;
 use std::sync::Wait;
 use std::thread::Threads;
 
@@ -44,7 +43,7 @@ pub(crate) struct Piece<'a> {
 
 /// The next part of a text of which so many bytes are tried first; why its first line stands in no stretch, where that
 /// is known. Each try is told.
-pub(crate) fn next_piece<'a, R: RandomSource + Threads + Wait + Sync, W: Watch>(
+pub(crate) fn next_piece<'a, R: Threads + Wait + Sync, W: Watch>(
     rt: &R,
     alloc: Global,
     text: &'a [u8],
@@ -80,7 +79,7 @@ pub(crate) fn next_piece<'a, R: RandomSource + Threads + Wait + Sync, W: Watch>(
 }
 
 /// The longest front of a text that is a run, or the lines that can stand in none.
-fn longest_piece<'a, R: RandomSource + Threads + Wait + Sync, W: Watch>(
+fn longest_piece<'a, R: Threads + Wait + Sync, W: Watch>(
     rt: &R,
     alloc: Global,
     text: &'a [u8],
@@ -126,7 +125,7 @@ fn longest_piece<'a, R: RandomSource + Threads + Wait + Sync, W: Watch>(
 
 /// The longest front of a text that ends before this line, and is a run; why the line can stand in no stretch, where it
 /// can't.
-fn piece_before<'a, R: RandomSource + Threads + Wait + Sync, W: Watch>(
+fn piece_before<'a, R: Threads + Wait + Sync, W: Watch>(
     rt: &R,
     alloc: Global,
     text: &'a [u8],

@@ -9,7 +9,6 @@ use audit_input::{Cause, Source};
 use audit_report::{Finding, Judgement};
 use cfs_model::{Knobs, Memory};
 use fault_bounds::{Bound, bound_of};
-use pid_table::PidHasher;
 use replay_model::FirstFault;
 use sched_record::Record;
 use std::alloc::{AllocError, Global};
@@ -55,12 +54,11 @@ impl<J: Told> Judgement for AsJson<J> {
         finding: Finding,
         joined: &Record,
         knobs: Knobs,
-        hasher: PidHasher,
     ) -> Result<AsJson<J>, Memory> {
-        let judged = J::of_finding(alloc, finding, joined, knobs, hasher)?;
+        let judged = J::of_finding(alloc, finding, joined, knobs)?;
         let fault = judged.fault();
         let bound = match fault {
-            Some(fault) => bound_of(alloc, joined, J::replayed_by(knobs), fault, hasher)?,
+            Some(fault) => bound_of(alloc, joined, J::replayed_by(knobs), fault)?,
             None => None,
         };
         Ok(AsJson {

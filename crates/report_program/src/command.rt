@@ -4,21 +4,17 @@ use audit_command::{
 use sched_audit::{Request, SinkOf, command_line, run_request};
 use std::alloc::Global;
 use std::io;
-use std::random::RandomSource;
 use std::rt::{Env, Files, Stdin};
 use std::sync::Wait;
 use std::thread::Threads;
 
 /// Does what the command line says, unless it asks for more than a report in lines.
-pub fn obey<R: Env + Files + Print + Eprint + AllocGlobal + RandomSource + Threads + Wait + Sync>(
+pub fn obey<R: Env + Files + Print + Eprint + AllocGlobal + Threads + Wait + Sync>(
     rt: &R,
     alloc: Global,
     stdin: Stdin,
     terminals: Terminals,
-) -> Ending
-where
-    R::File: Send,
-{
+) -> Ending {
     let words = match words_of(rt, alloc) {
         Ok(words) => words,
         Err(ending) => return ending,
@@ -39,16 +35,13 @@ fn asks_for_more(request: &Request<'_>) -> bool {
 }
 
 /// Opens both inputs, and writes the report of them to standard output.
-fn answer<R: Files + Print + Eprint + RandomSource + Threads + Wait + Sync>(
+fn answer<R: Files + Print + Eprint + Threads + Wait + Sync>(
     rt: &R,
     alloc: Global,
     stdin: Stdin,
     request: &Request<'_>,
     terminals: Terminals,
-) -> Result<Answer, Failure>
-where
-    R::File: Send,
-{
+) -> Result<Answer, Failure> {
     let inputs = open_inputs(rt, stdin, request, terminals)?;
     let mut trace = filled_input(rt, inputs.trace, inputs.lengths.trace);
     let mut companion = filled_input(rt, inputs.companion, inputs.lengths.companion);

@@ -18,19 +18,19 @@ use crate::task_rows::{put, take_out, write_over, write_row};
 use crate::waiting_task::WaitingTask;
 use crate::waiting_tasks::WaitingTasks;
 use cfs_model::{Claim, IDLE_PID, Memory, Place, Task, Way};
-use pid_table::{PidHasher, PidTable};
+use pid_table::PidTable;
 use std::alloc::Global;
 
 impl Runqueue {
-    /// Nobody. Pids are hashed by these keys.
-    pub fn empty(alloc: Global, hasher: PidHasher, floor: i64, mark: u64) -> Runqueue
+    /// Nobody.
+    pub fn empty(alloc: Global, floor: i64, mark: u64) -> Runqueue
         ensures part { runqueue_view result ≡ start_part [] floor mark }
         ensures pids { result.tasks.pids ≡ [] }
     {
         Runqueue {
             runner: None,
             runner_row: 0,
-            tasks: PidTable::new(alloc, hasher),
+            tasks: PidTable::new(alloc),
             recent: RecentRows::none(),
             waiting: WaitingTasks::new(alloc),
             floor,
@@ -41,7 +41,6 @@ impl Runqueue {
     /// The runqueue of these tasks: their pids rise, and at most one of them runs.
     pub fn of_tasks(
         alloc: Global,
-        hasher: PidHasher,
         tasks: &[Task],
         floor: i64,
         mark: u64,
@@ -51,7 +50,7 @@ impl Runqueue {
         ensures part { IfOk result (λ queue. runqueue_view queue ≡ start_part tasks.now floor mark) }
         ensures pids { IfOk result (λ queue. queue.tasks.pids ≡ map (λ task. task.pid) tasks.now) }
     {
-        let mut queue = Runqueue::empty(alloc, hasher, floor, mark);
+        let mut queue = Runqueue::empty(alloc, floor, mark);
         for task in tasks {
             queue.add(SchedEntity::of(*task))?;
         }

@@ -9,7 +9,6 @@ use crate::{
     run_in_blocks, run_least_in_blocks, run_least_waits, run_waits,
 };
 use std::alloc::Global;
-use std::random::RandomSource;
 use std::sync::Wait;
 use std::thread::{self, Threads};
 
@@ -18,13 +17,13 @@ use std::thread::{self, Threads};
 const BLOCK: u32 = 1 << 17;
 
 /// How many reads of the trace are audited together on several cores: threads begin for them.
-const READS_OF_THREADS: u32 = 48;
+const READS_OF_THREADS: u32 = 16;
 
 /// How many events are audited at once there, at most.
 const WINDOW: usize = 1 << 16;
 
 /// Reads both inputs to their ends, judges them as a request asks, and writes the report in lines.
-pub fn run_request<R: RandomSource + Threads + Wait + Sync, T: Feed, C: Feed + Send, S: Sink>(
+pub fn run_request<R: Threads + Wait + Sync, T: Feed, C: Feed, S: Sink>(
     rt: &R,
     alloc: Global,
     request: &Request<'_>,

@@ -16,19 +16,12 @@ use crate::{
 };
 use cfs_model::Knobs;
 use std::alloc::Global;
-use std::random::RandomSource;
 use std::thread::Threads;
 use stream_audit::{Aim, NoPast, Past, StreamOutcome, judge_stream};
 
 /// Reads both inputs to their ends, a block at a time, judges them, and writes the report. A fault of the trace is told
 /// before one of the companion. `run_in_blocks` is this by a verdict.
-pub(crate) fn run_streamed<
-    J: Streamed,
-    R: RandomSource + Threads + Sync,
-    T: Feed,
-    C: Feed + Send,
-    S: Sink,
->(
+pub(crate) fn run_streamed<J: Streamed, R: Threads + Sync, T: Feed, C: Feed, S: Sink>(
     rt: &R,
     alloc: Global,
     trace: &mut T,
@@ -54,13 +47,7 @@ pub(crate) fn run_streamed<
 
 /// Reads both inputs to their ends, a block at a time, and judges them. A fault of the trace is told before one of the
 /// companion. The past takes the last events up to the first fault, if it keeps events.
-pub fn judge_in_blocks<
-    J: Streamed,
-    R: RandomSource + Threads + Sync,
-    T: Feed,
-    C: Feed + Send,
-    P: Past,
->(
+pub fn judge_in_blocks<J: Streamed, R: Threads + Sync, T: Feed, C: Feed, P: Past>(
     rt: &R,
     alloc: Global,
     trace: &mut T,
@@ -113,7 +100,7 @@ fn streamed<J: Streamed>(outcome: StreamOutcome) -> Outcome<J>
 
 /// Reads both inputs to their ends, a block at a time, judges them, and writes the report. A fault of the trace is told
 /// before one of the companion.
-pub fn run_in_blocks<R: RandomSource + Threads + Sync, T: Feed, C: Feed + Send, S: Sink>(
+pub fn run_in_blocks<R: Threads + Sync, T: Feed, C: Feed, S: Sink>(
     rt: &R,
     alloc: Global,
     trace: &mut T,
@@ -137,7 +124,7 @@ pub fn run_in_blocks<R: RandomSource + Threads + Sync, T: Feed, C: Feed + Send, 
 }
 
 /// The same, but the report has a run's counts alone, and no line for each task.
-pub fn run_counted_in_blocks<R: RandomSource + Threads + Sync, T: Feed, C: Feed + Send, S: Sink>(
+pub fn run_counted_in_blocks<R: Threads + Sync, T: Feed, C: Feed, S: Sink>(
     rt: &R,
     alloc: Global,
     trace: &mut T,
@@ -159,7 +146,7 @@ pub fn run_counted_in_blocks<R: RandomSource + Threads + Sync, T: Feed, C: Feed 
 }
 
 /// The same, but the report has the least settings at which they are a run, each with where it is needed first.
-pub fn run_least_in_blocks<R: RandomSource + Threads + Sync, T: Feed, C: Feed + Send, S: Sink>(
+pub fn run_least_in_blocks<R: Threads + Sync, T: Feed, C: Feed, S: Sink>(
     rt: &R,
     alloc: Global,
     trace: &mut T,

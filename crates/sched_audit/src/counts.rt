@@ -8,12 +8,11 @@ use crate::judging::run_judged;
 use crate::{Counted, Fault, Feed, Gate, Sink, Status};
 use cfs_model::Knobs;
 use std::alloc::Global;
-use std::random::RandomSource;
 use std::sync::Wait;
 use std::thread::Threads;
 
 /// As `run`, but the report has a run's counts alone, and no line for each task.
-pub fn run_counted<R: RandomSource + Threads + Wait + Sync, T: Feed, C: Feed, G: Gate, S: Sink>(
+pub fn run_counted<R: Threads + Wait + Sync, T: Feed, C: Feed, G: Gate, S: Sink>(
     rt: &R,
     alloc: Global,
     trace: &mut T,

@@ -11,13 +11,12 @@ use crate::judging::{run_judged, texts_judged};
 use crate::{Fault, Feed, Gate, LeastFigures, Refused, Sink, Status, Verdict};
 use cfs_model::Knobs;
 use std::alloc::Global;
-use std::random::RandomSource;
 use std::sync::Wait;
 use std::thread::Threads;
 
 /// Judges a trace by its companion: the trace is read first, then the companion, each by several threads, then both are
 /// joined, and the events are audited, those of each processor by a thread of its own that passes this gate.
-pub fn audit_texts<R: RandomSource + Threads + Wait + Sync, G: Gate>(
+pub fn audit_texts<R: Threads + Wait + Sync, G: Gate>(
     rt: &R,
     alloc: Global,
     trace: &[u8],
@@ -32,7 +31,7 @@ pub fn audit_texts<R: RandomSource + Threads + Wait + Sync, G: Gate>(
 }
 
 /// Reads the trace to its end, then the companion, judges them, and writes the report.
-pub fn run<R: RandomSource + Threads + Wait + Sync, T: Feed, C: Feed, G: Gate, S: Sink>(
+pub fn run<R: Threads + Wait + Sync, T: Feed, C: Feed, G: Gate, S: Sink>(
     rt: &R,
     alloc: Global,
     trace: &mut T,
@@ -57,7 +56,7 @@ pub fn run<R: RandomSource + Threads + Wait + Sync, T: Feed, C: Feed, G: Gate, S
 
 /// The least settings at which a trace is a run by its companion, each with where it is needed first, or the first line
 /// up to which it is one at none.
-pub fn least_texts<R: RandomSource + Threads + Wait + Sync, G: Gate>(
+pub fn least_texts<R: Threads + Wait + Sync, G: Gate>(
     rt: &R,
     alloc: Global,
     trace: &[u8],
@@ -73,7 +72,7 @@ pub fn least_texts<R: RandomSource + Threads + Wait + Sync, G: Gate>(
 
 /// Reads the trace to its end, then the companion, and writes the least settings at which they are a run, each with
 /// where it is needed first.
-pub fn run_least<R: RandomSource + Threads + Wait + Sync, T: Feed, C: Feed, G: Gate, S: Sink>(
+pub fn run_least<R: Threads + Wait + Sync, T: Feed, C: Feed, G: Gate, S: Sink>(
     rt: &R,
     alloc: Global,
     trace: &mut T,

@@ -18,15 +18,13 @@ use audit_input::{read_all, record_of, tells_charges};
 use cfs_model::{Knobs, Memory};
 use input_blocks::read_lines;
 use least_places::least_figures;
-use pid_table::PidHasher;
 use sched_record::{Record, Trace, TraceFault, read_trace_wide};
 use std::alloc::Global;
-use std::random::RandomSource;
 use std::sync::Wait;
 use std::thread::Threads;
 
 /// Judges two texts.
-pub(crate) fn texts_judged<J: Judgement, R: RandomSource + Threads + Wait + Sync, G: Gate>(
+pub(crate) fn texts_judged<J: Judgement, R: Threads + Wait + Sync, G: Gate>(
     rt: &R,
     alloc: Global,
     trace: &[u8],
@@ -42,14 +40,7 @@ pub(crate) fn texts_judged<J: Judgement, R: RandomSource + Threads + Wait + Sync
 }
 
 /// Reads the trace to its end, then the companion, judges them, and writes the report. `run` is this by a verdict.
-pub fn run_judged<
-    J: Judgement,
-    R: RandomSource + Threads + Wait + Sync,
-    T: Feed,
-    C: Feed,
-    G: Gate,
-    S: Sink,
->(
+pub fn run_judged<J: Judgement, R: Threads + Wait + Sync, T: Feed, C: Feed, G: Gate, S: Sink>(
     rt: &R,
     alloc: Global,
     trace: &mut T,
@@ -81,7 +72,7 @@ pub fn run_judged<
 }
 
 /// Reads the trace to its end, then the companion, and judges them. What was read is kept beside the outcome.
-pub fn judge<J: Judgement, R: RandomSource + Threads + Wait + Sync, T: Feed, C: Feed, G: Gate>(
+pub fn judge<J: Judgement, R: Threads + Wait + Sync, T: Feed, C: Feed, G: Gate>(
     rt: &R,
     alloc: Global,
     trace: &mut T,
@@ -110,7 +101,7 @@ pub fn judge<J: Judgement, R: RandomSource + Threads + Wait + Sync, T: Feed, C: 
 }
 
 /// Joins a trace that was read and a companion's text, and judges their record.
-fn hearing_of<J: Judgement, R: RandomSource + Threads + Wait + Sync, G: Gate>(
+fn hearing_of<J: Judgement, R: Threads + Wait + Sync, G: Gate>(
     rt: &R,
     alloc: Global,
     trace: Result<Trace, TraceFault>,
@@ -158,7 +149,7 @@ fn hearing_of<J: Judgement, R: RandomSource + Threads + Wait + Sync, G: Gate>(
 }
 
 /// Judges a record: by a verdict or by its least settings, with auditors in threads of their own that pass this gate.
-fn judged<J: Judgement, R: RandomSource + Threads + Wait + Sync, G: Gate>(
+fn judged<J: Judgement, R: Threads + Wait + Sync, G: Gate>(
     rt: &R,
     alloc: Global,
     joined: &Record,
@@ -173,5 +164,5 @@ fn judged<J: Judgement, R: RandomSource + Threads + Wait + Sync, G: Gate>(
         let closed = audit(rt, alloc, joined, knobs, gate)?;
         Finding::Verdict(closed.verdict)
     };
-    J::of_finding(alloc, finding, joined, knobs, PidHasher::random(rt))
+    J::of_finding(alloc, finding, joined, knobs)
 }

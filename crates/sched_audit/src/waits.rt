@@ -12,12 +12,11 @@ use crate::judging::run_judged;
 use crate::{Counted, Fault, Feed, Gate, LeastFigures, Sink, Status, Verdict, WithWaits};
 use cfs_model::Knobs;
 use std::alloc::Global;
-use std::random::RandomSource;
 use std::sync::Wait;
 use std::thread::Threads;
 
 /// As `run`, and behind the report of a run how often and how long each task waited.
-pub fn run_waits<R: RandomSource + Threads + Wait + Sync, T: Feed, C: Feed, G: Gate, S: Sink>(
+pub fn run_waits<R: Threads + Wait + Sync, T: Feed, C: Feed, G: Gate, S: Sink>(
     rt: &R,
     alloc: Global,
     trace: &mut T,
@@ -42,13 +41,7 @@ pub fn run_waits<R: RandomSource + Threads + Wait + Sync, T: Feed, C: Feed, G: G
 }
 
 /// As `run_counted`, and behind the counts of a run how often and how long each task waited.
-pub fn run_counted_waits<
-    R: RandomSource + Threads + Wait + Sync,
-    T: Feed,
-    C: Feed,
-    G: Gate,
-    S: Sink,
->(
+pub fn run_counted_waits<R: Threads + Wait + Sync, T: Feed, C: Feed, G: Gate, S: Sink>(
     rt: &R,
     alloc: Global,
     trace: &mut T,
@@ -71,7 +64,7 @@ pub fn run_counted_waits<
 }
 
 /// As `run_least`, and behind the least settings how often and how long each task waited.
-pub fn run_least_waits<R: RandomSource + Threads + Wait + Sync, T: Feed, C: Feed, G: Gate, S: Sink>(
+pub fn run_least_waits<R: Threads + Wait + Sync, T: Feed, C: Feed, G: Gate, S: Sink>(
     rt: &R,
     alloc: Global,
     trace: &mut T,

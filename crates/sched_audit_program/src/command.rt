@@ -13,21 +13,17 @@ use sched_audit::{
 };
 use std::alloc::Global;
 use std::io;
-use std::random::RandomSource;
 use std::rt::{Env, Files, Stdin};
 use std::sync::Wait;
 use std::thread::Threads;
 
 /// Does what the command line says.
-pub fn obey<R: Env + Files + Print + Eprint + AllocGlobal + RandomSource + Threads + Wait + Sync>(
+pub fn obey<R: Env + Files + Print + Eprint + AllocGlobal + Threads + Wait + Sync>(
     rt: &R,
     alloc: Global,
     stdin: Stdin,
     terminals: Terminals,
-) -> Ending
-where
-    R::File: Send,
-{
+) -> Ending {
     let words = match words_of(rt, alloc) {
         Ok(words) => words,
         Err(ending) => return ending,
@@ -42,16 +38,13 @@ where
 }
 
 /// Opens both inputs, and writes what is asked of them to standard output.
-fn answer<R: Files + Print + Eprint + RandomSource + Threads + Wait + Sync>(
+fn answer<R: Files + Print + Eprint + Threads + Wait + Sync>(
     rt: &R,
     alloc: Global,
     stdin: Stdin,
     request: &Request<'_>,
     terminals: Terminals,
-) -> Result<Answer, Failure>
-where
-    R::File: Send,
-{
+) -> Result<Answer, Failure> {
     let Inputs {
         trace,
         companion,
@@ -69,17 +62,14 @@ where
 
 /// Answers a request by what is told of a record, with an explanation or what else is written beside the report. The
 /// record is kept where that wants it.
-fn answer_as<J: Told + Streamed, R: Files + Print + Eprint + RandomSource + Threads + Wait + Sync>(
+fn answer_as<J: Told + Streamed, R: Files + Print + Eprint + Threads + Wait + Sync>(
     rt: &R,
     alloc: Global,
     request: &Request<'_>,
     trace: Input<R::File>,
     companion: Input<R::File>,
     lengths: Lengths,
-) -> Result<Answer, Failure>
-where
-    R::File: Send,
-{
+) -> Result<Answer, Failure> {
     if keeps_record(request) {
         answer_kept_as::<J, R>(rt, alloc, request, trace, companion, lengths)
     } else {
@@ -93,7 +83,7 @@ fn keeps_record(request: &Request<'_>) -> bool {
 }
 
 /// Answers a request with the record kept, and with the waits of its tasks where they are asked for.
-fn answer_kept_as<J: Told, R: Files + Print + Eprint + RandomSource + Threads + Wait + Sync>(
+fn answer_kept_as<J: Told, R: Files + Print + Eprint + Threads + Wait + Sync>(
     rt: &R,
     alloc: Global,
     request: &Request<'_>,
@@ -109,7 +99,7 @@ fn answer_kept_as<J: Told, R: Files + Print + Eprint + RandomSource + Threads + 
 }
 
 /// The same in lines, or as JSON where that is asked for.
-fn answer_kept_in<J: Told, R: Files + Print + Eprint + RandomSource + Threads + Wait + Sync>(
+fn answer_kept_in<J: Told, R: Files + Print + Eprint + Threads + Wait + Sync>(
     rt: &R,
     alloc: Global,
     request: &Request<'_>,
@@ -125,17 +115,14 @@ fn answer_kept_in<J: Told, R: Files + Print + Eprint + RandomSource + Threads + 
 }
 
 /// Writes the report, and nothing beside it.
-fn answer_alone<R: Files + Print + Eprint + RandomSource + Threads + Wait + Sync>(
+fn answer_alone<R: Files + Print + Eprint + Threads + Wait + Sync>(
     rt: &R,
     alloc: Global,
     request: &Request<'_>,
     trace: Input<R::File>,
     companion: Input<R::File>,
     lengths: Lengths,
-) -> Result<Answer, Fault>
-where
-    R::File: Send,
-{
+) -> Result<Answer, Fault> {
     if request.json {
         return answer_json(rt, alloc, request, trace, companion, lengths);
     }

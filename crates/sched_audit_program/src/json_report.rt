@@ -7,13 +7,12 @@ use json_audit::{Told, run_json_named};
 use sched_audit::{Counted, Fault, LeastFigures, OpenGate, Request, SinkOf, Verdict, WithWaits};
 use std::alloc::Global;
 use std::io;
-use std::random::RandomSource;
 use std::rt::Files;
 use std::sync::Wait;
 use std::thread::Threads;
 
 /// Writes the report as one JSON object.
-pub(crate) fn answer_json<R: Files + Print + Eprint + RandomSource + Threads + Wait + Sync>(
+pub(crate) fn answer_json<R: Files + Print + Eprint + Threads + Wait + Sync>(
     rt: &R,
     alloc: Global,
     request: &Request<'_>,
@@ -29,7 +28,7 @@ pub(crate) fn answer_json<R: Files + Print + Eprint + RandomSource + Threads + W
 }
 
 /// The same by what is judged, with the waits of the tasks where they are asked for.
-fn answer_as<J: Told, R: Files + Print + Eprint + RandomSource + Threads + Wait + Sync>(
+fn answer_as<J: Told, R: Files + Print + Eprint + Threads + Wait + Sync>(
     rt: &R,
     alloc: Global,
     request: &Request<'_>,
@@ -45,7 +44,7 @@ fn answer_as<J: Told, R: Files + Print + Eprint + RandomSource + Threads + Wait 
 }
 
 /// The same, of what is told. A trace that can't be read a second time is kept.
-fn answer_in<J: Told, R: Files + Print + Eprint + RandomSource + Threads + Wait + Sync>(
+fn answer_in<J: Told, R: Files + Print + Eprint + Threads + Wait + Sync>(
     rt: &R,
     alloc: Global,
     request: &Request<'_>,

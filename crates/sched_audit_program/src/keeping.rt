@@ -9,7 +9,6 @@ use audit_command::{Answer, Failure, FrontOf, Lengths, kept_input, watched_input
 use audit_input::{Keeping, KeepingFeed};
 use given_texts::Input;
 use json_audit::{AsJson, Told, judge_json};
-use pid_table::PidHasher;
 use recent_past::RecentPast;
 use sched_audit::{
     Fault, Feed, Hearing, Judgement, Kept, OpenGate, Outcome, Request, SinkOf, Status, judge,
@@ -17,16 +16,12 @@ use sched_audit::{
 };
 use std::alloc::Global;
 use std::io;
-use std::random::RandomSource;
 use std::rt::Files;
 use std::sync::Wait;
 use std::thread::Threads;
 
 /// Judges both inputs, and writes the report, and what of the record is asked for beside it.
-pub(crate) fn answer_kept<
-    J: Judgement,
-    R: Files + Print + Eprint + RandomSource + Threads + Wait + Sync,
->(
+pub(crate) fn answer_kept<J: Judgement, R: Files + Print + Eprint + Threads + Wait + Sync>(
     rt: &R,
     alloc: Global,
     request: &Request<'_>,
@@ -45,13 +40,7 @@ pub(crate) fn answer_kept<
 }
 
 /// The same, of inputs of which nothing was read.
-fn answer_of<
-    'a,
-    J: Judgement,
-    R: Files + Print + RandomSource + Threads + Wait + Sync,
-    F: Feed,
-    C: Feed,
->(
+fn answer_of<'a, J: Judgement, R: Files + Print + Threads + Wait + Sync, F: Feed, C: Feed>(
     rt: &'a R,
     alloc: Global,
     request: &'a Request<'a>,
@@ -67,7 +56,7 @@ fn answer_of<
 }
 
 /// Writes what is asked for of what was judged, and an explanation behind it.
-fn write_all_of<J: Judgement, R: Files + Print + RandomSource, F: Feed, C: Feed>(
+fn write_all_of<J: Judgement, R: Files + Print, F: Feed, C: Feed>(
     rt: &R,
     alloc: Global,
     request: &Request<'_>,
@@ -82,20 +71,19 @@ fn write_all_of<J: Judgement, R: Files + Print + RandomSource, F: Feed, C: Feed>
 }
 
 /// Explains a fault by the record, or a refusal.
-fn explain_kept<J: Judgement, R: Files + Print + RandomSource, F: Feed, C: Feed>(
+fn explain_kept<J: Judgement, R: Files + Print, F: Feed, C: Feed>(
     rt: &R,
     alloc: Global,
     request: &Request<'_>,
     hearing: &Hearing<J>,
     texts: &mut Texts<'_, R, F, C>,
 ) -> Result<(), Fault> {
-    let past = past_of(rt, alloc, request, hearing)?;
+    let past = past_of(alloc, request, hearing)?;
     explain(rt, alloc, request, &hearing.outcome, &past, texts)
 }
 
 /// What was before the fault, where there is one.
-fn past_of<J: Judgement, R: RandomSource>(
-    rt: &R,
+fn past_of<J: Judgement>(
     alloc: Global,
     request: &Request<'_>,
     hearing: &Hearing<J>,
@@ -103,18 +91,14 @@ fn past_of<J: Judgement, R: RandomSource>(
     if let (Outcome::Judged(judged), Kept::Record(record)) = (&hearing.outcome, &hearing.kept) {
         if let Some(fault) = judged.fault() {
             let knobs = J::replayed_by(request.knobs);
-            let hasher = PidHasher::random(rt);
-            return Ok(RecentPast::of_record(alloc, record, knobs, hasher, fault)?);
+            return Ok(RecentPast::of_record(alloc, record, knobs, fault)?);
         }
     }
     Ok(RecentPast::unkept(alloc))
 }
 
 /// Judges both inputs, and writes the report as one JSON object, and the states that are asked for beside it.
-pub(crate) fn answer_kept_json<
-    J: Told,
-    R: Files + Print + Eprint + RandomSource + Threads + Wait + Sync,
->(
+pub(crate) fn answer_kept_json<J: Told, R: Files + Print + Eprint + Threads + Wait + Sync>(
     rt: &R,
     alloc: Global,
     request: &Request<'_>,
@@ -128,7 +112,7 @@ pub(crate) fn answer_kept_json<
 }
 
 /// The same, of inputs of which nothing was read.
-fn json_of<J: Told, R: Files + Print + RandomSource + Threads + Wait + Sync, F: Feed, C: Feed>(
+fn json_of<J: Told, R: Files + Print + Threads + Wait + Sync, F: Feed, C: Feed>(
     rt: &R,
     alloc: Global,
     request: &Request<'_>,
@@ -152,7 +136,7 @@ fn json_of<J: Told, R: Files + Print + RandomSource + Threads + Wait + Sync, F: 
 }
 
 /// Makes the file of the states that are asked for, writes the report, and then the states.
-fn write_kept<J: Judgement, R: Files + Print + RandomSource>(
+fn write_kept<J: Judgement, R: Files + Print>(
     rt: &R,
     alloc: Global,
     request: &Request<'_>,
@@ -162,7 +146,7 @@ fn write_kept<J: Judgement, R: Files + Print + RandomSource>(
     let mut out = FrontOf::new(SinkOf::new(io::writer(rt)));
     let status = write_report(alloc, &hearing.outcome, hearing.tells_charges, &mut out)?;
     if let Some(file) = states {
-        write_states_to(rt, alloc, request.knobs, hearing, file)?;
+        write_states_to(alloc, request.knobs, hearing, file)?;
     }
     Ok(out.answer(status))
 }

@@ -1,13 +1,11 @@
 //! The file of `--states`.
 use audit_command::Failure;
 use cfs_model::Knobs;
-use pid_table::PidHasher;
 use sched_audit::{Fault, Hearing, Judgement, Kept, Outcome};
 use state_lines::{NotWritten, write_states};
 use std::alloc::Global;
 use std::fs::File;
 use std::io::Write;
-use std::random::RandomSource;
 use std::rt::Files;
 
 /// Makes the file of this name, if one is asked for.
@@ -22,8 +20,7 @@ pub(crate) fn file_of<R: Files>(rt: &R, name: Option<&str>) -> Result<Option<R::
 }
 
 /// Writes how each processor stands at each event. Of a refused text there is nothing to write.
-pub(crate) fn write_states_to<J: Judgement, R: RandomSource, W: Write + Drop>(
-    rt: &R,
+pub(crate) fn write_states_to<J: Judgement, W: Write + Drop>(
     alloc: Global,
     knobs: Knobs,
     hearing: &Hearing<J>,
@@ -32,8 +29,7 @@ pub(crate) fn write_states_to<J: Judgement, R: RandomSource, W: Write + Drop>(
     match (&hearing.outcome, &hearing.kept) {
         (Outcome::Judged(judged), Kept::Record(record)) => {
             let knobs = J::replayed_by(knobs);
-            let hasher = PidHasher::random(rt);
-            match write_states(alloc, record, knobs, judged.fault(), hasher, file) {
+            match write_states(alloc, record, knobs, judged.fault(), file) {
                 Ok(()) => Ok(()),
                 Err(NotWritten::Memory) => Err(Failure::Audit(Fault::Memory)),
                 Err(NotWritten::Write) => Err(Failure::States),

@@ -53,8 +53,8 @@ impl Window {
 
     /// Adds an event behind the others, with what is said on its line.
     #[inline(always)]
-    pub fn add(&mut self, event: Entry, saying: Saying) -> Result<(), Memory>
-        ensures added { OnOk result (window_view self.new ≡ window_view self.old ++ said_of event saying ∷ []) }
+    pub fn add(&mut self, event: &Entry, saying: Saying) -> Result<(), Memory>
+        ensures added { OnOk result (window_view self.new ≡ window_view self.old ++ said_of event.now saying ∷ []) }
         ensures same { OnErr result (window_view self.new ≡ window_view self.old) }
     {
         self.events.reserve(1)?;
@@ -64,7 +64,7 @@ impl Window {
             self.sayings.pop();
             return added;
         }
-        self.events.push_reserved(event);
+        self.events.push_reserved(*event);
         Ok(())
     }
 

@@ -21,7 +21,7 @@ impl Record {
         let events = self.events();
         let end = from + most.min(events.len() - from);
         for index in from..end {
-            window.add(events[index], self.saying_at(index))?;
+            window.add(&events[index], self.saying_at(index))?;
         }
         Ok(())
     }

@@ -5,20 +5,16 @@ use sched_audit::{
 use std::fs::File;
 use std::io;
 use std::process::ExitCode;
-use std::random::RandomSource;
 use std::rt::Files;
 use std::thread::Threads;
 
 /// Runs the audit that reads both inputs at once, by how many bytes a read asks for and how many reads are audited
 /// together, how many events a window has, and then the words of a command line of `sched_audit`. Prints its report.
-pub fn print_in_blocks<R: AllocGlobal + Files + Print + RandomSource + Threads + Sync>(
+pub fn print_in_blocks<R: AllocGlobal + Files + Print + Threads + Sync>(
     rt: &R,
     block: &str,
     words: &[String],
-) -> io::Result<ExitCode>
-where
-    R::File: Send,
-{
+) -> io::Result<ExitCode> {
     let sizes = words
         .first()
         .and_then(|window| sizes_of(block, window.as_str()));

@@ -7,12 +7,11 @@ use sched_audit::{OpenGate, audit_texts, least_texts};
 use sched_record::{read_trace, read_trace_wide};
 use std::io;
 use std::process::ExitCode;
-use std::random::RandomSource;
 use std::sync::Wait;
 use std::thread::Threads;
 
 /// Makes the call of this name on two texts, or on their record, and prints a line for each of its answers.
-pub fn print_call<R: AllocGlobal + Print + RandomSource + Threads + Wait + Sync>(
+pub fn print_call<R: AllocGlobal + Print + Threads + Wait + Sync>(
     rt: &R,
     call: &str,
     texts: &Texts,
@@ -25,7 +24,7 @@ pub fn print_call<R: AllocGlobal + Print + RandomSource + Threads + Wait + Sync>
     }
 }
 
-fn print_audit<R: AllocGlobal + Print + RandomSource + Threads + Wait + Sync>(
+fn print_audit<R: AllocGlobal + Print + Threads + Wait + Sync>(
     rt: &R,
     texts: &Texts,
 ) -> io::Result<ExitCode> {
@@ -37,7 +36,7 @@ fn print_audit<R: AllocGlobal + Print + RandomSource + Threads + Wait + Sync>(
     )
 }
 
-fn print_least<R: AllocGlobal + Print + RandomSource + Threads + Wait + Sync>(
+fn print_least<R: AllocGlobal + Print + Threads + Wait + Sync>(
     rt: &R,
     texts: &Texts,
 ) -> io::Result<ExitCode> {

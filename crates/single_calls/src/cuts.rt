@@ -7,7 +7,6 @@ use sched_audit::{FeedOf, OpenGate, SinkOf, command_line, run};
 use std::io;
 use std::io::Write;
 use std::process::ExitCode;
-use std::random::RandomSource;
 use std::rt::Files;
 use std::sync::Wait;
 use std::thread::Threads;
@@ -16,7 +15,7 @@ use std::thread::Threads;
 const EDGE: usize = 1024;
 
 /// Runs the audit on beginnings of two texts, by a step and then the words of a command line of `sched_audit`.
-pub fn print_cuts<R: AllocGlobal + Files + Print + RandomSource + Threads + Wait + Sync>(
+pub fn print_cuts<R: AllocGlobal + Files + Print + Threads + Wait + Sync>(
     rt: &R,
     words: &[String],
 ) -> io::Result<ExitCode> {
@@ -34,7 +33,7 @@ pub fn print_cuts<R: AllocGlobal + Files + Print + RandomSource + Threads + Wait
 
 /// Runs the audit on beginnings of the trace with the whole companion, and on the whole trace with beginnings of the
 /// companion: each of their lengths within `EDGE` of either end, and between these each step.
-fn print_runs<R: AllocGlobal + Print + RandomSource + Threads + Wait + Sync>(
+fn print_runs<R: AllocGlobal + Print + Threads + Wait + Sync>(
     rt: &R,
     step: usize,
     trace: &[u8],
@@ -66,7 +65,7 @@ fn is_cut(length: usize, whole: usize, step: usize) -> bool
 }
 
 /// Prints what a run answered and how many bytes it wrote, and these.
-fn print_run<R: AllocGlobal + Print + RandomSource + Threads + Wait + Sync>(
+fn print_run<R: AllocGlobal + Print + Threads + Wait + Sync>(
     rt: &R,
     trace: &[u8],
     companion: &[u8],

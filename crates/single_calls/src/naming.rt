@@ -4,24 +4,19 @@ use crate::endings::{out_of_memory, refused};
 use crate::stopwatch::Stopwatch;
 use cfs_model::Memory;
 use indexmap::IndexMap;
-use pid_table::{PidHasher, PidTable};
+use pid_table::PidTable;
 use sched_record::Trace;
 use std::alloc::Global;
 use std::io;
-use std::random::RandomSource;
 use std::rt::Clock;
 
-/// Names the pids of a trace's births, in their order, in a table whose keys are random, and in a map with the hash
-/// that `indexmap` has by default, whose seed is fixed. Prints how long each took, and how many pids there are.
-pub fn print_naming<R: AllocGlobal + Clock + Print + RandomSource>(
-    rt: &R,
-    trace: &Trace,
-) -> io::Result<()> {
+/// Names the pids of a trace's births, in their order, in a `PidTable`, and in an `IndexMap` with its own hash, whose
+/// seed is fixed. Prints how long each took, and how many pids there are.
+pub fn print_naming<R: AllocGlobal + Clock + Print>(rt: &R, trace: &Trace) -> io::Result<()> {
     let alloc = rt.alloc();
     let born = born_in(alloc, trace).map_err(out_of_memory)?;
-    let hasher = PidHasher::random(rt);
     let mut watch = Stopwatch::start(rt)?;
-    let in_table = named_in_table(alloc, hasher, &born).map_err(out_of_memory)?;
+    let in_table = named_in_table(alloc, &born).map_err(out_of_memory)?;
     watch.print_lap(rt)?;
     let in_map = named_in_map(alloc, &born).map_err(out_of_memory)?;
     watch.print_lap(rt)?;
@@ -42,9 +37,9 @@ fn born_in(alloc: Global, trace: &Trace) -> Result<Vec<u32>, Memory> {
     Ok(pids)
 }
 
-/// Names pids in a table with these keys, and tells how many there are.
-fn named_in_table(alloc: Global, hasher: PidHasher, pids: &[u32]) -> Result<usize, Memory> {
-    let mut table = PidTable::new(alloc, hasher);
+/// Names pids in a table, and tells how many there are.
+fn named_in_table(alloc: Global, pids: &[u32]) -> Result<usize, Memory> {
+    let mut table = PidTable::new(alloc);
     for pid in pids {
         table.make_room()?;
         if table.index_of(*pid).is_none() {

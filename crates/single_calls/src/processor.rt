@@ -1,5 +1,4 @@
 use cfs_model::{Knobs, Memory};
-use pid_table::PidHasher;
 use queue_replay::{Page, Replay};
 use sched_record::{Record, Stream};
 use std::alloc::Global;
@@ -29,19 +28,16 @@ impl Processor {
     }
 
     /// Makes the whole page of the stream that was dealt.
-    pub fn replay(&mut self, alloc: Global, hasher: PidHasher) {
+    pub fn replay(&mut self, alloc: Global) {
         if let Some(stream) = self.stream.take() {
-            self.page = replayed(alloc, stream, hasher).ok();
+            self.page = replayed(alloc, stream).ok();
         }
     }
 }
 
 /// The whole page of a stream.
-fn replayed(alloc: Global, stream: Stream, hasher: PidHasher) -> Result<Page, Memory> {
-    let mut replay = Replay::with_hasher(alloc, stream, Knobs::standard(), hasher).map_err(|(
-        _,
-        memory,
-    )| memory)?;
+fn replayed(alloc: Global, stream: Stream) -> Result<Page, Memory> {
+    let mut replay = Replay::new(alloc, stream, Knobs::standard()).map_err(|(_, memory)| memory)?;
     let _state = replay.go_on(u64::MAX)?;
     Ok(replay.page())
 }

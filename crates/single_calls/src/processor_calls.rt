@@ -7,7 +7,6 @@ use crate::endings::{bad_words, out_of_memory, print_answer};
 use crate::tray::Tray;
 use audit_crew::{AuditorFault, OpenGate, auditor};
 use cfs_model::{Knobs, Memory};
-use pid_table::PidHasher;
 use queue_replay::{Page, Replay, State, Tag};
 use sched_record::{Record, Stream};
 use std::alloc::Global;
@@ -117,15 +116,6 @@ fn print_state<R: Print>(rt: &R, state: State, page: &Page) -> io::Result<ExitCo
 /// The tag of the page that an auditor posts, which asks before each step whether to stop.
 fn tag_by_auditor(alloc: Global, stream: Stream) -> Result<Option<Tag>, AuditorFault> {
     let mut tray = Tray::new();
-    let hasher = PidHasher::fixed();
-    auditor(
-        alloc,
-        &mut tray,
-        &OpenGate,
-        stream,
-        Knobs::standard(),
-        1,
-        hasher,
-    )?;
+    auditor(alloc, &mut tray, &OpenGate, stream, Knobs::standard(), 1)?;
     Ok(tray.posted)
 }

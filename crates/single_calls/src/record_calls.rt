@@ -4,36 +4,33 @@ use crate::endings::{out_of_memory, print_answer};
 use crate::processor_calls::print_calls_by_processor;
 use audit_crew::{OpenGate, audit, audit_serial, crew};
 use cfs_model::{Knobs, Memory};
-use pid_table::PidHasher;
 use sched_audit::{LeastFigures, Outcome, Place, Places, least_report, report};
 use sched_record::Record;
 use std::alloc::Global;
 use std::io;
 use std::process::ExitCode;
-use std::random::RandomSource;
 use std::sync::Wait;
 use std::thread::Threads;
 use ticket_book::{Book, ClosedLeast, LeastSettings, whole_page};
 
 /// Makes the call of this name on a record, or on each of its processors.
-pub fn print_call_on<R: AllocGlobal + Print + RandomSource + Threads + Wait + Sync>(
+pub fn print_call_on<R: AllocGlobal + Print + Threads + Wait + Sync>(
     rt: &R,
     call: &str,
     record: &Record,
 ) -> io::Result<ExitCode> {
     let alloc = rt.alloc();
     let knobs = Knobs::standard();
-    let hasher = PidHasher::random(rt);
     match call {
         "book" => print_answer(rt, &Book::new(alloc, record.cpus())),
         "crew" => print_answer(rt, &crew(rt, alloc, record, knobs, &OpenGate)),
         "audit" => print_answer(rt, &audit(rt, alloc, record, knobs, &OpenGate)),
-        "audit_serial" => print_answer(rt, &audit_serial(alloc, record, knobs, hasher)),
+        "audit_serial" => print_answer(rt, &audit_serial(alloc, record, knobs)),
         "audit_least" => print_answer(rt, &audit_least(rt, record)),
         "close" => print_answer(rt, &full_book(alloc, record)?.close(record, knobs)),
         "close_without_pages" => print_answer(rt, &empty_book(alloc, record)?.close(record, knobs)),
         "report" => {
-            let closed = audit_serial(alloc, record, knobs, hasher).map_err(out_of_memory)?;
+            let closed = audit_serial(alloc, record, knobs).map_err(out_of_memory)?;
             print_answer(rt, &report(alloc, &Outcome::Judged(closed.verdict)))
         }
         "least_report" => {
@@ -49,7 +46,7 @@ pub fn print_call_on<R: AllocGlobal + Print + RandomSource + Threads + Wait + Sy
 }
 
 /// The least settings of a record, by a crew.
-fn audit_least<R: AllocGlobal + RandomSource + Threads + Wait + Sync>(
+fn audit_least<R: AllocGlobal + Threads + Wait + Sync>(
     rt: &R,
     record: &Record,
 ) -> Result<ClosedLeast, Memory> {
@@ -89,9 +86,7 @@ fn empty_book(alloc: Global, record: &Record) -> io::Result<Book> {
 fn full_book(alloc: Global, record: &Record) -> io::Result<Book> {
     let mut book = empty_book(alloc, record)?;
     for cpu in 0..record.cpus() {
-        let page = whole_page(alloc, record, cpu, Knobs::standard(), PidHasher::fixed()).map_err(
-            out_of_memory,
-        )?;
+        let page = whole_page(alloc, record, cpu, Knobs::standard()).map_err(out_of_memory)?;
         let _told = book.post(page);
     }
     Ok(book)

@@ -8,10 +8,8 @@ use crate::stopwatch::Stopwatch;
 use crate::texts::Texts;
 use audit_crew::{OpenGate, audit, audit_serial, crew};
 use cfs_model::{Knobs, Memory};
-use pid_table::PidHasher;
 use sched_record::{Record, join};
 use std::alloc::Global;
-use std::random::RandomSource;
 use std::rt::Clock;
 use std::sync::Wait;
 use std::thread::Threads;
@@ -22,7 +20,7 @@ const THREADS: usize = 4;
 
 /// Audits a trace and its companion, by stages and whole, and prints how long each stage and each audit took; then the
 /// most stretches that an auditor of `audit` replayed, and how the book closed.
-pub fn print_stages<R: AllocGlobal + Clock + Print + RandomSource + Threads + Wait + Sync>(
+pub fn print_stages<R: AllocGlobal + Clock + Print + Threads + Wait + Sync>(
     rt: &R,
     texts: &Texts,
 ) -> io::Result<()> {
@@ -37,13 +35,12 @@ pub fn print_stages<R: AllocGlobal + Clock + Print + RandomSource + Threads + Wa
 }
 
 /// Audits a record stage by stage, in at most so many threads.
-fn print_by_stages<R: AllocGlobal + Clock + Print + RandomSource + Threads + Wait + Sync>(
+fn print_by_stages<R: AllocGlobal + Clock + Print + Threads + Wait + Sync>(
     rt: &R,
     record: &Record,
     threads: usize,
 ) -> io::Result<()> {
     let alloc = rt.alloc();
-    let hasher = PidHasher::random(rt);
     let mut processors = processors_of(alloc, record.cpus()).map_err(out_of_memory)?;
     let mut watch = Stopwatch::start(rt)?;
     thread::for_each_mut(
@@ -57,7 +54,7 @@ fn print_by_stages<R: AllocGlobal + Clock + Print + RandomSource + Threads + Wai
         rt,
         processors.as_mut_slice(),
         threads.max(1),
-        &|_cpu, processor: &mut Processor| processor.replay(alloc, hasher),
+        &|_cpu, processor: &mut Processor| processor.replay(alloc),
     );
     watch.print_lap(rt)?;
     drop(processors);
@@ -65,7 +62,7 @@ fn print_by_stages<R: AllocGlobal + Clock + Print + RandomSource + Threads + Wai
 }
 
 /// Closes the book that a crew filled.
-fn print_closing<R: AllocGlobal + Clock + Print + RandomSource + Threads + Wait + Sync>(
+fn print_closing<R: AllocGlobal + Clock + Print + Threads + Wait + Sync>(
     rt: &R,
     record: &Record,
 ) -> io::Result<()> {
@@ -79,14 +76,13 @@ fn print_closing<R: AllocGlobal + Clock + Print + RandomSource + Threads + Wait 
 }
 
 /// Audits a record whole, by one thread and by one for each processor.
-fn print_whole<R: AllocGlobal + Clock + Print + RandomSource + Threads + Wait + Sync>(
+fn print_whole<R: AllocGlobal + Clock + Print + Threads + Wait + Sync>(
     rt: &R,
     record: &Record,
 ) -> io::Result<()> {
     let (alloc, knobs) = (rt.alloc(), Knobs::standard());
-    let hasher = PidHasher::random(rt);
     let mut watch = Stopwatch::start(rt)?;
-    let _closed = audit_serial(alloc, record, knobs, hasher).map_err(out_of_memory)?;
+    let _closed = audit_serial(alloc, record, knobs).map_err(out_of_memory)?;
     watch.print_lap(rt)?;
     let gate = CountingGate::new(alloc, record.cpus()).map_err(out_of_memory)?;
     let closed = audit(rt, alloc, record, knobs, &gate).map_err(out_of_memory)?;

@@ -3,21 +3,17 @@ use cfs_model::Knobs;
 use sched_audit::{FeedOf, Heard, Outcome, Sizes, Verdict, judge_in_blocks};
 use std::fs::File;
 use std::io;
-use std::random::RandomSource;
 use std::rt::{Clock, Files};
 use std::thread::Threads;
 use stream_audit::NoPast;
 
 /// Judges two files a block at a time, and prints how long it took and what they came to.
-pub fn print_streamed<R: AllocGlobal + Clock + Files + Print + RandomSource + Threads + Sync>(
+pub fn print_streamed<R: AllocGlobal + Clock + Files + Print + Threads + Sync>(
     rt: &R,
     trace: &str,
     companion: &str,
     sizes: Sizes,
-) -> io::Result<()>
-where
-    R::File: Send,
-{
+) -> io::Result<()> {
     let mut watch = Stopwatch::start(rt)?;
     let trace = &mut FeedOf::new(File::open(rt, trace)?);
     let companion = &mut FeedOf::new(File::open(rt, companion)?);

@@ -11,20 +11,16 @@ use crate::texts::Texts;
 use sched_audit::Sizes;
 use sched_record::read_trace;
 use std::process::ExitCode;
-use std::random::RandomSource;
 use std::rt::{Clock, Files};
 use std::sync::Wait;
 use std::thread::Threads;
 use std::{fs, io};
 
 /// Times what the words say as often as the last of them says, and prints a line for each time.
-pub fn print_times<R: AllocGlobal + Clock + Files + Print + RandomSource + Threads + Wait + Sync>(
+pub fn print_times<R: AllocGlobal + Clock + Files + Print + Threads + Wait + Sync>(
     rt: &R,
     words: &[String],
-) -> io::Result<ExitCode>
-where
-    R::File: Send,
-{
+) -> io::Result<ExitCode> {
     let Some(rounds) = words.last().and_then(|word| word.parse::<u32>().ok()) else {
         return bad_words();
     };
@@ -46,7 +42,7 @@ where
 }
 
 /// Times how the pids of a trace's births are named.
-fn time_naming<R: AllocGlobal + Clock + Files + Print + RandomSource>(
+fn time_naming<R: AllocGlobal + Clock + Files + Print>(
     rt: &R,
     trace: &str,
     rounds: u32,
@@ -78,7 +74,7 @@ fn time_reading<R: AllocGlobal + Clock + Files + Print + Threads + Sync>(
 }
 
 /// Times the audit of a recording, by stages and whole.
-fn time_stages<R: AllocGlobal + Clock + Print + RandomSource + Threads + Wait + Sync>(
+fn time_stages<R: AllocGlobal + Clock + Print + Threads + Wait + Sync>(
     rt: &R,
     texts: &Texts,
     rounds: u32,
@@ -90,16 +86,13 @@ fn time_stages<R: AllocGlobal + Clock + Print + RandomSource + Threads + Wait + 
 }
 
 /// Times the audit of two files a block at a time.
-fn time_streamed<R: AllocGlobal + Clock + Files + Print + RandomSource + Threads + Sync>(
+fn time_streamed<R: AllocGlobal + Clock + Files + Print + Threads + Sync>(
     rt: &R,
     trace: &str,
     companion: &str,
     sizes: Sizes,
     rounds: u32,
-) -> io::Result<ExitCode>
-where
-    R::File: Send,
-{
+) -> io::Result<ExitCode> {
     for _ in 0..rounds {
         print_streamed(rt, trace, companion, sizes)?;
     }

@@ -9,7 +9,6 @@ use crate::sight::{Sight, next_sight};
 use crate::start_line::{push_fault, push_start};
 use crate::waits::Waits;
 use cfs_model::{IDLE_PID, Knobs, Memory, Place};
-use pid_table::PidHasher;
 use queue_replay::Replay;
 use replay_model::{Deed, FirstFault};
 use sched_record::{Record, Stream};
@@ -17,20 +16,18 @@ use std::alloc::Global;
 use std::io::Write;
 
 /// Writes how each processor of a record stands at the start and at each event, one processor after the other, by the
-/// replays under these settings; where the record has a fault under them, up to its line, and then the fault. Pids are
-/// hashed by these keys.
+/// replays under these settings; where the record has a fault under them, up to its line, and then the fault.
 pub fn write_states<W: Write + Drop>(
     alloc: Global,
     record: &Record,
     knobs: Knobs,
     fault: Option<FirstFault>,
-    hasher: PidHasher,
     writer: W,
 ) -> Result<(), NotWritten> {
     let mut out = Output::new(alloc, writer);
     let until = fault.map_or(u32::MAX, |fault| fault.line);
     for cpu in 0..record.cpus() {
-        write_processor(alloc, &mut out, record, cpu, knobs, until, hasher)?;
+        write_processor(alloc, &mut out, record, cpu, knobs, until)?;
     }
     if let Some(fault) = fault {
         push_fault(&mut out.text, record, &fault)?;
@@ -39,16 +36,11 @@ pub fn write_states<W: Write + Drop>(
 }
 
 /// The replay of a stream before its first step.
-fn replay_of(
-    alloc: Global,
-    stream: Stream,
-    knobs: Knobs,
-    hasher: PidHasher,
-) -> Result<Replay, Memory>
+fn replay_of(alloc: Global, stream: Stream, knobs: Knobs) -> Result<Replay, Memory>
     ensures stream { IfOk result (λ replay. replay.stream ≡ stream_view stream) }
     ensures made { IfOk result (λ replay. replay.made ≡ 0) }
 {
-    match Replay::with_hasher(alloc, stream, knobs, hasher) {
+    match Replay::new(alloc, stream, knobs) {
         Ok(replay) => Ok(replay),
         Err((_, memory)) => Err(memory),
     }
@@ -62,13 +54,12 @@ fn write_processor<W: Write + Drop>(
     cpu: u32,
     knobs: Knobs,
     until: u32,
-    hasher: PidHasher,
 ) -> Result<(), NotWritten>
     requires { cpu < (record_view joined.now).cpus }
 {
     let stream = joined.deal(cpu)?;
     push_start(&mut out.text, &stream)?;
-    write_steps(alloc, out, &stream, joined.deal(cpu)?, knobs, until, hasher)
+    write_steps(alloc, out, &stream, joined.deal(cpu)?, knobs, until)
 }
 
 /// Writes a processor's events above a line. The stream is dealt twice: once to be read, and once to be replayed.
@@ -79,12 +70,11 @@ fn write_steps<W: Write + Drop>(
     replayed: Stream,
     knobs: Knobs,
     until: u32,
-    hasher: PidHasher,
 ) -> Result<(), NotWritten>
     requires { stream_view replayed ≡ stream_view stream.now }
 {
-    let mut waits = waits_at_start(alloc, stream, hasher)?;
-    let mut replay = replay_of(alloc, replayed, knobs, hasher)?;
+    let mut waits = waits_at_start(alloc, stream)?;
+    let mut replay = replay_of(alloc, replayed, knobs)?;
     write_events(out, stream, &mut replay, &mut waits, knobs, until)
 }
 
@@ -139,8 +129,8 @@ fn waited(sight: &Sight, waits: &Waits) -> Option<u64> {
 }
 
 /// Those who wait at the start.
-fn waits_at_start(alloc: Global, stream: &Stream, hasher: PidHasher) -> Result<Waits, Memory> {
-    let mut waits = Waits::new(alloc, hasher);
+fn waits_at_start(alloc: Global, stream: &Stream) -> Result<Waits, Memory> {
+    let mut waits = Waits::new(alloc);
     for task in stream.tasks() {
         if task.place == Place::Wait {
             waits.begin(task.pid, stream.start())?;

@@ -1,5 +1,5 @@
 use cfs_model::{Memory, Place};
-use pid_table::{PidHasher, PidTable};
+use pid_table::PidTable;
 use runqueue::SchedEntity;
 use std::alloc::Global;
 
@@ -11,9 +11,9 @@ pub(crate) struct Waits {
 
 impl Waits {
     /// Nobody has waited.
-    pub(crate) fn new(alloc: Global, hasher: PidHasher) -> Waits {
+    pub(crate) fn new(alloc: Global) -> Waits {
         Waits {
-            table: PidTable::new(alloc, hasher),
+            table: PidTable::new(alloc),
         }
     }
 

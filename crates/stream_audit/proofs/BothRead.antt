@@ -136,7 +136,7 @@ one_of fault read P Q (inr failed) = inr failed.0
 pub few_reads : (calls : ℕ) (has_ended has_failed : Bool) (input : CompanionInput)
     → IsFedBy calls has_ended has_failed input → calls ≤ most_reads
 few_reads calls has_ended has_failed input fed =
-    subst (λ (n : ℕ). n ≤ most_reads) (sym fed.counted) input.blocks.bounded
+    subst (λ (n : ℕ). n ≤ most_reads) (sym fed.counted) input.blocks.source.bounded
 
 -- what isn't a fault of writing
 pub no_write : (fault : Fault) → (fault ≡ Memory) ⊎ ((fault ≡ ReadTrace) ⊎ (fault ≡ ReadCompanion)) → fault ≢ Write

@@ -10,3 +10,4 @@ mod KnownSoFar
 mod Heard
 mod BothRead
 mod UnderWay
+mod ReadBeside

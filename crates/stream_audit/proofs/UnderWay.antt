@@ -138,7 +138,7 @@ told_as P (Err e) fault is holds = subst P (sym is) holds
 
 -- how reads were made
 pub read_by : (left : Option (List ℕ)) (calls : ℕ) (has_failed has_ended was_failed : Bool) (new : LineBlocks)
-    (goes_on : Bool) → was_failed ≡ false → calls ≡ new.reads
+    (goes_on : Bool) → was_failed ≡ false → calls ≡ new.source.reads
     → has_failed ≡ was_failed → has_ended ≡ not goes_on → (goes_on ≡ false → IsAtEnd left)
     → IsReadBy left calls has_failed has_ended new goes_on
 read_by left calls has_failed has_ended was_failed new goes_on unfailed counted heard ended end = record {

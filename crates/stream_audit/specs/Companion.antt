@@ -11,7 +11,7 @@ use Rattle.stream_audit.specs.declared.companion_input.CompanionInput.{Companion
 
 -- all reads of the input were made here, none failed, and it has ended where it doesn't go on
 pub record IsFedBy (calls : ℕ) (has_ended has_failed : Bool) (input : CompanionInput) : Type 0 where
-  pub counted : calls ≡ input.blocks.reads
+  pub counted : calls ≡ input.blocks.source.reads
   pub ended : has_ended ≡ not input.goes_on
   pub heard : has_failed ≡ false
 

@@ -1,18 +1,21 @@
 -- What was heard so far of two inputs, of which what comes next is joined while the audit goes on (this project's
 -- profile).
-use Rattle.std.specs.Prelude.{◌≡◌, ◌≢◌, ◌⊎◌, ◌≤◌, ℕ, Bool, true, false, not, List, [], Option, Result, Err, IsNone}
-use Rattle.std.specs.Prelude.{IfErr, OnOk, drop}
+use Rattle.std.specs.Prelude.{◌≡◌, ◌≢◌, ◌⊎◌, ◌<◌, ◌≤◌, ℕ, Bool, true, false, not, List, [], Option, Result, Err, IsNone}
+use Rattle.std.specs.Prelude.{IfErr, IfOk, OnErr, OnOk, drop, length}
 use Rattle.std.specs.Io.KnownBytes.{IsAtEnd}
 use Rattle.audit_input.specs.declared.fault.Fault.{Fault}
 use Rattle.audit_input.specs.Known.{IsCutShort, most_reads}
-use Rattle.audit_input.specs.declared.fault.Fault.TheVariants.{Memory, ReadTrace, Write}
+use Rattle.audit_input.specs.declared.fault.Fault.TheVariants.{Memory, ReadCompanion, ReadTrace, Write}
 use Rattle.cfs_model.specs.Claimed.{Claimed}
+use Rattle.cfs_model.specs.declared.act.Entry.{Entry}
 use Rattle.stream_audit.specs.Aim.{AimView}
 use Rattle.entry_reader.specs.Reader.{entries_of}
-use Rattle.input_blocks.specs.Blocks.{IsThen}
+use Rattle.input_blocks.specs.Blocks.{HasReadOn, IsThen}
 use Rattle.input_blocks.specs.OfEntries.{ReadsEntries}
+use Rattle.input_blocks.specs.declared.block_source.BlockSource.{BlockSource}
 use Rattle.input_blocks.specs.declared.line_blocks.LineBlocks.{LineBlocks}
-use Rattle.stream_audit.specs.Course.{AreJudged, IsCalm, StartStays}
+use Rattle.stream_audit.specs.Companion.{IsFedBy}
+use Rattle.stream_audit.specs.Course.{AreJudged, IsCalm, JoinsNext, StartStays}
 use Rattle.stream_audit.specs.Hearing.{Input, IsPending, IsReady, ReadsBoth}
 use Rattle.stream_audit.specs.declared.course.Course.{Course}
 use Rattle.stream_audit.specs.declared.hearing.Hearing.{Hearing}
@@ -58,26 +61,57 @@ HasHeardNothing aim listener = (trace gave : Option (List ℕ)) → IsUnderWay a
 pub record IsReadBy (left : Option (List ℕ)) (calls : ℕ) (has_failed has_ended : Bool) (blocks : LineBlocks)
     (goes_on : Bool) : Type 0
   where
-    pub counted : calls ≡ blocks.reads
+    pub counted : calls ≡ blocks.source.reads
     pub heard : has_failed ≡ false
     pub ended : has_ended ≡ not goes_on
     pub at_end : goes_on ≡ false → IsAtEnd left
 
--- an input was read as often as its blocks say, no read of it failed, and it has ended where they say so
-pub record IsLeft (calls : ℕ) (has_failed has_ended : Bool) (blocks : LineBlocks) : Type 0 where
-  pub counted : calls ≡ blocks.reads
+-- an input was read as often as its source says, no read of it failed, and it has ended where that says so
+pub record IsLeft (calls : ℕ) (has_failed has_ended : Bool) (source : BlockSource) : Type 0 where
+  pub counted : calls ≡ source.reads
   pub heard : has_failed ≡ false
-  pub ended : has_ended ≡ blocks.ended
+  pub ended : has_ended ≡ source.ended
 
 -- how reads of a trace that answer this leave it: only where a read fails, or no more may be made, it isn't known
-pub record IsLeftBy (calls : ℕ) (has_failed has_ended : Bool) (blocks : LineBlocks) (result : Result Bool Fault)
+pub record IsLeftBy (calls : ℕ) (has_failed has_ended : Bool) (source : BlockSource) (result : Result Bool Fault)
     : Type 0
   where
     pub bounded : calls ≤ most_reads
-    pub known : OnOk result (IsLeft calls has_failed has_ended blocks)
-    pub wanted : IfErr result (λ e. (e ≡ ReadTrace) ⊎ IsLeft calls has_failed has_ended blocks)
+    pub known : OnOk result (IsLeft calls has_failed has_ended source)
+    pub wanted : IfErr result (λ e. (e ≡ ReadTrace) ⊎ IsLeft calls has_failed has_ended source)
     pub cut_short : IfErr result (λ e. ((e ≡ Memory) × (has_failed ≡ false))
         ⊎ ((e ≡ ReadTrace) × IsCutShort has_failed calls))
+
+-- the first of some events were joined, or the companion was read no further
+pub record HasJoined (left later : Option (List ℕ)) (calls : ℕ) (has_ended has_failed : Bool) (old new : Course)
+    (events : List Entry) (result : Result ℕ Fault) : Type 0
+  where
+    pub joins : JoinsNext left later old new events result
+    pub starts : OnOk result (StartStays old.joined new.joined)
+    pub aim : new.aim ≡ old.aim
+    pub within : IfOk result (λ count. count ≤ length events)
+    pub some : OnErr result (0 < length events)
+    pub fed : OnOk result (IsFedBy calls has_ended has_failed new.companion)
+    pub bounded : calls ≤ most_reads
+    pub cut_short : IfErr result (λ e. ((e ≡ Memory) × (has_failed ≡ false))
+        ⊎ ((e ≡ ReadCompanion) × IsCutShort has_failed calls))
+
+-- reads of a trace of which none had failed, behind what was there
+pub record HasReadMore (left later : Option (List ℕ)) (calls : ℕ) (has_failed has_ended : Bool)
+    (old new : BlockSource) (result : Result Bool Fault) : Type 0
+  where
+    pub read : OnOk result (HasReadOn left later old new)
+    pub end : IfOk result (λ goes_on. goes_on ≡ false → IsAtEnd later)
+    pub ended : IfOk result (λ goes_on. has_ended ≡ not goes_on)
+    pub counted : OnOk result (calls ≡ new.reads)
+    pub read_on : OnOk result (old.reads < new.reads)
+    pub bounded : calls ≤ most_reads
+    pub heard : OnOk result (has_failed ≡ false)
+    pub cut_short : IfErr result (λ e. ((e ≡ Memory) × (has_failed ≡ false))
+        ⊎ ((e ≡ ReadTrace) × IsCutShort has_failed calls))
+    pub never_fewer : old.reads ≤ new.reads
+    pub told : OnOk result (has_ended ≡ new.ended)
+    pub wanted : IfErr result (λ e. (e ≡ ReadTrace) ⊎ ((calls ≡ new.reads) × (has_ended ≡ new.ended)))
 
 -- all events that were read were taken out, where no line is bad
 abbrev pub IsTakenOut : Intake → Type 0

@@ -1,27 +1,28 @@
 //! Events are joined with the companion while the trace's next reads are made.
-ghost use Rattle.std.specs.Prelude.{◌≡◌, ◌⊎◌, ◌++◌, ◌<◌, ◌≤◌, ℕ, List, Option, true, false, IfErr, IfOk, OnErr};
-ghost use Rattle.std.specs.Prelude.{OnOk, drop, length, take};
+ghost use Rattle.std.specs.Prelude.{◌≡◌, ◌⊎◌, ◌<◌, ◌≤◌, ℕ, List, Option, [], true, false, IfErr, IfOk, OnErr};
+ghost use Rattle.std.specs.Prelude.{OnOk, length};
 ghost use Rattle.audit_input.specs.Known.{IsCutShort, most_reads};
 ghost use Rattle.cfs_model.specs.Claimed.{Claimed};
 ghost use Rattle.cfs_model.specs.declared.act.Entry.{Entry as Event};
 ghost use Rattle.companion_file.specs.Earlier.{Said};
-ghost use Rattle.input_blocks.specs.Blocks.{ComesTo, IsAmid};
+ghost use Rattle.input_blocks.specs.Blocks.{ComesTo, IsAmid, IsPassed, filled};
 ghost use Rattle.input_blocks.specs.OfEntries.{ReadsEntries};
 ghost use Rattle.stream_audit.specs.Companion.{IsFedBy};
 ghost use Rattle.stream_audit.specs.Course.{AreEventsNext, IsCourseOf, JoinsNext, StartStays};
-ghost use Rattle.stream_audit.specs.Listening.{IsLeftBy, IsReadBy};
+ghost use Rattle.stream_audit.specs.Listening.{HasJoined, HasReadMore, IsLeftBy, IsReadBy};
 
 use crate::course::Course;
 use audit_input::{Fault, Feed};
-use cfs_model::Entry;
+use cfs_model::{Entry, Memory};
 use entry_reader::EntryReader;
-use input_blocks::LineBlocks;
+use input_blocks::{BlockSource, LineBlocks, Passing};
 use std::alloc::Global;
 use std::thread::{Threads, join_mut};
+use text_parts::lines::lines_after_whole;
 
-/// Joins the first of the events that come next, and makes the trace's next reads beside that, or behind it by the same
-/// thread.
-pub(crate) fn join_and_read<R: Threads + Sync, T: Feed, C: Feed + Send>(
+/// Joins the first of the events that come next, makes the trace's next reads, and passes on what was read: where that
+/// can be done beside each other, what was read before, by a thread of its own.
+pub(crate) fn join_and_read<R: Threads + Sync, T: Feed, C: Feed>(
     rt: &R,
     alloc: Global,
     course: &mut Course,
@@ -56,63 +57,118 @@ pub(crate) fn join_and_read<R: Threads + Sync, T: Feed, C: Feed + Send>(
         → IfOk result.1 (ComesTo ReadsEntries reader.old reader.new gave (T.left trace.new) blocks.new done) }
     ensures read { IfOk result.1 (IsReadBy (T.left trace.new) (T.calls trace.new) (T.has_failed trace.new)
         (T.has_ended trace.new) blocks.new) }
-    ensures read_on { OnOk result.1 (blocks.old.reads < blocks.new.reads) }
-    ensures never_fewer { blocks.old.reads ≤ blocks.new.reads }
-    ensures stands { IsLeftBy (T.calls trace.new) (T.has_failed trace.new) (T.has_ended trace.new) blocks.new
-        result.1 }
+    ensures read_on { OnOk result.1 (blocks.old.source.reads < blocks.new.source.reads) }
+    ensures never_fewer { blocks.old.source.reads ≤ blocks.new.source.reads }
+    ensures stands { IsLeftBy (T.calls trace.new) (T.has_failed trace.new) (T.has_ended trace.new)
+        blocks.new.source result.1 }
 {
-    // No thread is started to join nothing.
-    if beside && !events.is_empty() {
-        return join_mut(
-            rt,
-            &mut ||
-                requires fed { IsFedBy (C.calls companion.now) (C.has_ended companion.now) (C.has_failed companion.now)
-                    course.now.companion }
-                requires next { (gave : Option (List ℕ)) × (said : Said) × (before : List Event)
-                    × (handed : List Claimed)
-                    × IsCourseOf course.now.aim gave (C.left companion.now) course.now said before handed
-                    × (0 < length events.now → AreEventsNext before events.now) }
-                ensures joins { JoinsNext (C.left companion.entry.now) (C.left companion.exit.now) course.entry.now
-                    course.exit.now events.entry.now result }
-                ensures starts { OnOk result (StartStays course.entry.now.joined course.exit.now.joined) }
-                ensures aim { course.exit.now.aim ≡ course.entry.now.aim }
-                ensures within { IfOk result (λ count. count ≤ length events.entry.now) }
-                ensures some { OnErr result (0 < length events.entry.now) }
-                ensures fed { OnOk result (IsFedBy (C.calls companion.exit.now) (C.has_ended companion.exit.now)
-                    (C.has_failed companion.exit.now) course.exit.now.companion) }
-                ensures bounded { C.calls companion.exit.now ≤ most_reads }
-                ensures cut_short { IfErr result
-                    (λ e. ((e ≡ Fault.Memory) × (C.has_failed companion.exit.now ≡ false))
-                    ⊎ ((e ≡ Fault.ReadCompanion)
-                    × IsCutShort (C.has_failed companion.exit.now) (C.calls companion.exit.now))) }
-            { course.join_next(alloc, companion, events, most) },
-            &mut || blocks.next_some(trace, reader, reads, Fault::ReadTrace),
+    if !beside {
+        let joined = course.join_next(alloc, companion, events, most);
+        return (
+            joined,
+            blocks.next_some(trace, reader, reads, Fault::ReadTrace),
         );
     }
-    let joined = course.join_next(alloc, companion, events, most);
-    (
-        joined,
-        blocks.next_some(trace, reader, reads, Fault::ReadTrace),
+    lines_after_whole();
+    let LineBlocks { passing, source } = blocks;
+    let (passed, (joined, read)) = pass_and_read(
+        rt, alloc, passing, reader, course, companion, events, most, trace, source, reads,
+    );
+    (joined, blocks.turn(reader, passed, read))
+}
+
+/// Passes on what was read ahead, and beside that joins the first of the events that come next and makes the trace's
+/// next reads.
+fn pass_and_read<R: Threads + Sync, T: Feed, C: Feed>(
+    rt: &R,
+    alloc: Global,
+    passing: &mut Passing,
+    reader: &mut EntryReader,
+    course: &mut Course,
+    companion: &mut C,
+    events: &[Entry],
+    most: usize,
+    trace: &mut T,
+    source: &mut BlockSource,
+    reads: u32,
+) -> (
+    Result<(), Memory>,
+    (Result<usize, Fault>, Result<bool, Fault>),
+)
+    requires fed { IsFedBy (C.calls companion.old) (C.has_ended companion.old) (C.has_failed companion.old)
+        course.old.companion }
+    requires next { (gave : Option (List ℕ)) × (said : Said) × (before : List Event) × (handed : List Claimed)
+        × IsCourseOf course.old.aim gave (C.left companion.old) course.old said before handed
+        × (0 < length events.now → AreEventsNext before events.now) }
+    requires unended { T.has_ended trace.old ≡ false }
+    requires unfailed { T.has_failed trace.old ≡ false }
+    requires counted { T.calls trace.old ≡ source.old.reads }
+    ensures passed { OnOk result.0 (IsPassed ReadsEntries reader.old reader.new passing.old passing.new) }
+    ensures none { OnOk result.0 (filled passing.new.ahead ≡ []) }
+    ensures joined { HasJoined (C.left companion.old) (C.left companion.new) (C.calls companion.new)
+        (C.has_ended companion.new) (C.has_failed companion.new) course.old course.new events.now result.1.0 }
+    ensures read { HasReadMore (T.left trace.old) (T.left trace.new) (T.calls trace.new) (T.has_failed trace.new)
+        (T.has_ended trace.new) source.old source.new result.1.1 }
+{
+    // No thread is started to pass nothing on.
+    if !passing.is_ahead() {
+        return (
+            passing.pass(reader),
+            join_then_read(alloc, course, companion, events, most, trace, source, reads),
+        );
+    }
+    join_mut(
+        rt,
+        &mut || passing.pass(reader),
+        &mut || { join_then_read(alloc, course, companion, events, most, trace, source, reads) },
     )
+}
+
+/// Joins the first of the events that come next, and makes the trace's next reads behind that.
+fn join_then_read<T: Feed, C: Feed>(
+    alloc: Global,
+    course: &mut Course,
+    companion: &mut C,
+    events: &[Entry],
+    most: usize,
+    trace: &mut T,
+    source: &mut BlockSource,
+    reads: u32,
+) -> (Result<usize, Fault>, Result<bool, Fault>)
+    requires fed { IsFedBy (C.calls companion.old) (C.has_ended companion.old) (C.has_failed companion.old)
+        course.old.companion }
+    requires next { (gave : Option (List ℕ)) × (said : Said) × (before : List Event) × (handed : List Claimed)
+        × IsCourseOf course.old.aim gave (C.left companion.old) course.old said before handed
+        × (0 < length events.now → AreEventsNext before events.now) }
+    requires unended { T.has_ended trace.old ≡ false }
+    requires unfailed { T.has_failed trace.old ≡ false }
+    requires counted { T.calls trace.old ≡ source.old.reads }
+    ensures joined { HasJoined (C.left companion.old) (C.left companion.new) (C.calls companion.new)
+        (C.has_ended companion.new) (C.has_failed companion.new) course.old course.new events.now result.0 }
+    ensures read { HasReadMore (T.left trace.old) (T.left trace.new) (T.calls trace.new) (T.has_failed trace.new)
+        (T.has_ended trace.new) source.old source.new result.1 }
+{
+    let joined = course.join_next(alloc, companion, events, most);
+    (joined, source.read_some(trace, reads, Fault::ReadTrace))
 }
 
 /// A fault of the companion is told only where the trace has none: what is left of the trace is read, if its reads
 /// beside that left something.
 pub(crate) fn fault_beside<T: Feed>(
-    blocks: &mut LineBlocks,
+    source: &mut BlockSource,
     trace: &mut T,
     fault: Fault,
     read: Result<bool, Fault>,
 ) -> Fault
-    requires left { IsLeftBy (T.calls trace.old) (T.has_failed trace.old) (T.has_ended trace.old) blocks.old read }
-    requires read { 0 < blocks.old.reads }
+    requires left { IsLeftBy (T.calls trace.old) (T.has_failed trace.old) (T.has_ended trace.old) source.old read }
+    requires read { 0 < source.old.reads }
     requires fault { (fault ≡ Fault.Memory) ⊎ (fault ≡ Fault.ReadCompanion) }
     ensures memory { result ≡ Fault.Memory → (fault ≡ Fault.Memory) × (T.has_failed trace.new ≡ false) }
     ensures trace { result ≡ Fault.ReadTrace → IsCutShort (T.has_failed trace.new) (T.calls trace.new) }
     ensures companion { result ≡ Fault.ReadCompanion → (fault ≡ Fault.ReadCompanion)
         × (T.has_ended trace.new ≡ true) × (T.has_failed trace.new ≡ false) }
     ensures one { (result ≡ Fault.Memory) ⊎ (result ≡ Fault.ReadTrace) ⊎ (result ≡ Fault.ReadCompanion) }
-    ensures never_fewer { blocks.old.reads ≤ blocks.new.reads }
+    ensures never_fewer { source.old.reads ≤ source.new.reads }
     ensures bounded { T.calls trace.new ≤ most_reads }
 {
     if let Err(Fault::ReadTrace) = read {
@@ -122,10 +178,10 @@ pub(crate) fn fault_beside<T: Feed>(
         // Nothing is read behind it.
         Fault::Memory => Fault::Memory,
         _ => {
-            if blocks.has_ended() {
+            if source.has_ended() {
                 return fault;
             }
-            match blocks.drain(trace, Fault::ReadTrace) {
+            match source.drain(trace, Fault::ReadTrace) {
                 Ok(()) => fault,
                 Err(earlier) => earlier,
             }

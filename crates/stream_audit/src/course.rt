@@ -25,7 +25,6 @@ use audit_input::{Fault, Feed};
 use cfs_model::{Entry, Memory};
 use companion_file::CompanionFault;
 use least_places::Finding;
-use pid_table::PidHasher;
 use std::alloc::Global;
 use std::thread::Threads;
 use window_joining::together;
@@ -35,7 +34,6 @@ use window_joining::together;
 pub(crate) struct Course {
     companion: CompanionInput,
     aim: Aim,
-    hasher: PidHasher,
     /// None before the first event, and where the companion has no start.
     joined: Option<JoinedEvents>,
 }
@@ -51,7 +49,7 @@ pub(crate) enum Closing {
 
 impl Course {
     /// Before the first event. A read of the companion will ask for at most so many bytes.
-    pub fn new(alloc: Global, size: u32, aim: Aim, hasher: PidHasher) -> Course
+    pub fn new(alloc: Global, size: u32, aim: Aim) -> Course
         requires { 0 < size }
         ensures course { (gave : Option (List ℕ)) → IsCourseOf aim gave gave result (summed []) [] [] }
         ensures fed { IsFedBy 0 false false result.companion }
@@ -60,7 +58,6 @@ impl Course {
         Course {
             companion: CompanionInput::new(alloc, size),
             aim,
-            hasher,
             joined: None,
         }
     }
@@ -262,7 +259,7 @@ impl Course {
     {
         together();
         if let Some(joined) = &mut self.joined {
-            begin_judging(alloc, joined, self.aim, self.hasher, judge, past)?;
+            begin_judging(alloc, joined, self.aim, judge, past)?;
             if let Some(judge) = judge {
                 judge.take(joined);
             }
@@ -444,7 +441,7 @@ impl Course {
                 if let Some(fault) = apart {
                     return Ok(Closing::Joined(Ending::Apart(fault)));
                 }
-                let judge = judge_or_first(alloc, joined, self.aim, self.hasher, judge)?;
+                let judge = judge_or_first(alloc, joined, self.aim, judge)?;
                 Ok(Closing::Joined(Ending::Judged(finding_of(alloc, self.aim, judge)?)))
             }
             // A companion without a start is refused.
@@ -458,7 +455,6 @@ fn begin_judging<P: Past>(
     alloc: Global,
     joined: &JoinedEvents,
     aim: Aim,
-    hasher: PidHasher,
     judge: &mut Option<Judge>,
     past: &mut P,
 ) -> Result<(), Memory>
@@ -471,7 +467,7 @@ fn begin_judging<P: Past>(
     if judge.is_some() {
         return Ok(());
     }
-    let first = Judge::new(alloc, joined.start(), aim, hasher)?;
+    let first = Judge::new(alloc, joined.start(), aim)?;
     first.begin_past(alloc, joined.start(), past)?;
     *judge = Some(first);
     Ok(())
@@ -482,7 +478,6 @@ fn judge_or_first(
     alloc: Global,
     joined: &JoinedEvents,
     aim: Aim,
-    hasher: PidHasher,
     judge: Option<Judge>,
 ) -> Result<Judge, Memory>
     ensures { (handed : List Claimed) → IsIdle judge
@@ -491,7 +486,7 @@ fn judge_or_first(
 {
     match judge {
         Some(judge) => Ok(judge),
-        None => Ok(Judge::new(alloc, joined.start(), aim, hasher)?),
+        None => Ok(Judge::new(alloc, joined.start(), aim)?),
     }
 }
 

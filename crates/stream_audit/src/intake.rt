@@ -17,7 +17,6 @@ use audit_input::{Fault, Feed};
 use cfs_model::{Entry, Memory};
 use entry_reader::EntryReader;
 use input_blocks::LineBlocks;
-use pid_table::PidHasher;
 use std::alloc::Global;
 use std::thread::Threads;
 
@@ -41,23 +40,23 @@ pub(crate) struct Intake {
     /// How many events are joined at once, at most.
     pub most: usize,
     pub ghost some: { 0 < most },
-    pub ghost begun: { 0 < length events.items → 0 < blocks.reads },
+    pub ghost begun: { 0 < length events.items → 0 < blocks.source.reads },
 }
 
 impl Intake {
     ghost use Rattle.stream_audit.specs.Listening.{EndsBoth, HasCome, IsComing, IsReadBy, IsTakenOut};
 
-    /// Before the first read. Pids are hashed by these keys.
-    pub fn new(alloc: Global, aim: Aim, sizes: Sizes, hasher: PidHasher) -> Intake
+    /// Before the first read.
+    pub fn new(alloc: Global, aim: Aim, sizes: Sizes) -> Intake
         ensures coming { (trace : Option (List ℕ)) (gave : Option (List ℕ))
             → IsComing aim trace trace gave gave result [] }
-        ensures reads { result.blocks.reads ≡ 0 }
+        ensures reads { result.blocks.source.reads ≡ 0 }
         ensures fed { IsFedBy 0 false false result.course.companion }
         ensures none { IsNone result.course.joined }
     {
         let blocks = LineBlocks::new(alloc, sizes.block());
         let reader = EntryReader::new(alloc);
-        let course = Course::new(alloc, sizes.block().min(COMPANION_BLOCK), aim, hasher);
+        let course = Course::new(alloc, sizes.block().min(COMPANION_BLOCK), aim);
         Intake {
             blocks,
             reader,
@@ -69,10 +68,10 @@ impl Intake {
         }
     }
 
-    /// Joins the first of the events that were taken out with what the companion says of them, and makes the trace's
-    /// next reads beside that, or behind it by the same thread; or one read, where nothing waits to be audited. Says
-    /// whether the trace goes on.
-    pub fn come<R: Threads + Sync, T: Feed, C: Feed + Send>(
+    /// Joins the first of the events that were taken out with what the companion says of them, makes the trace's next
+    /// reads, or one read, where nothing waits to be audited, and reads the lines of what came before them beside that,
+    /// or of them behind it by the same thread. Says whether the trace goes on.
+    pub fn come<R: Threads + Sync, T: Feed, C: Feed>(
         &mut self,
         rt: &R,
         alloc: Global,
@@ -95,7 +94,7 @@ impl Intake {
             self.new handed) }
         ensures read { IfOk result (IsReadBy (T.left trace.new) (T.calls trace.new) (T.has_failed trace.new)
             (T.has_ended trace.new) self.new.blocks) }
-        ensures read_on { OnOk result (self.old.blocks.reads < self.new.blocks.reads) }
+        ensures read_on { OnOk result (self.old.blocks.source.reads < self.new.blocks.source.reads) }
         ensures next { OnOk result (self.new.next ≤ length self.new.events.items) }
         ensures fed { OnOk result (IsFedBy (C.calls companion.new) (C.has_ended companion.new)
             (C.has_failed companion.new) self.new.course.companion) }
@@ -123,7 +122,7 @@ impl Intake {
                 self.next = count;
                 read
             }
-            Err(fault) => Err(fault_beside(&mut self.blocks, trace, fault, read)),
+            Err(fault) => Err(fault_beside(&mut self.blocks.source, trace, fault, read)),
         }
     }
 
@@ -158,7 +157,7 @@ impl Intake {
     /// Takes out the events that were read, where no line of the trace is bad. All that were taken out before were
     /// joined.
     pub fn take_next(&mut self)
-        requires { 0 < self.old.blocks.reads }
+        requires { 0 < self.old.blocks.source.reads }
         ensures pending { (aim : AimView) (gave : Option (List ℕ)) (left : Option (List ℕ)) (bytes : List ℕ)
             (handed : List Claimed) → IsHeardBy aim gave left bytes self.old.reader self.old.course handed
             → IsPending aim gave left bytes self.new.reader self.new.course handed self.new.events.items }

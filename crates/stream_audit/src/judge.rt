@@ -8,7 +8,6 @@ ghost use Rattle.stream_audit.specs.Progress.{IsKnownOf};
 use crate::{Aim, JoinedEvents, Past, Progress};
 use cfs_model::Memory;
 use companion_file::Companion;
-use pid_table::PidHasher;
 use sched_record::Window;
 use std::alloc::Global;
 use std::thread::Threads;
@@ -22,18 +21,13 @@ pub struct Judge {
 }
 
 impl Judge {
-    /// Before the first event of a record that begins so. Pids are hashed by these keys.
-    pub fn new(
-        alloc: Global,
-        start: &Companion,
-        aim: Aim,
-        hasher: PidHasher,
-    ) -> Result<Judge, Memory>
+    /// Before the first event of a record that begins so.
+    pub fn new(alloc: Global, start: &Companion, aim: Aim) -> Result<Judge, Memory>
         ensures known { IfOk result (IsAwaiting (begun aim start.now) []) }
         ensures emptied { IfOk result (λ judge. window_view judge.window ≡ []) }
     {
         Ok(Judge {
-            progress: Progress::new(alloc, start, aim, hasher)?,
+            progress: Progress::new(alloc, start, aim)?,
             window: Window::new(alloc),
         })
     }

@@ -16,17 +16,16 @@ use crate::{Aim, Ending, Hearing, Judge, Past, Sizes, StreamOutcome};
 use audit_input::{Fault, Feed, Refused};
 use cfs_model::Memory;
 use entry_reader::EntryReader;
-use pid_table::PidHasher;
 use sched_record::one_trace_answer;
 use std::alloc::Global;
-use std::random::RandomSource;
 use std::thread::Threads;
 
-/// Judges two inputs of any length, which are read a block at a time. Of the trace a read is held, the events of the
-/// reads that are audited together and of those before them, and a row for each task at each processor where it ever
-/// stood; of the companion a block, the start, the `idle` lines, and what is said ahead of the trace. A fault of the
-/// trace is told before one of the companion. The past takes the last events up to the first fault, if it keeps events.
-pub fn judge_stream<R: RandomSource + Threads + Sync, T: Feed, C: Feed + Send, P: Past>(
+/// Judges two inputs of any length, which are read a block at a time. Of the trace the text of two windows is held, the
+/// events of the reads that are audited together and of those before them, and a row for each task at each processor
+/// where it ever stood; of the companion a block, the start, the `idle` lines, and what is said ahead of the trace. A
+/// fault of the trace is told before one of the companion. The past takes the last events up to the first fault, if it
+/// keeps events.
+pub fn judge_stream<R: Threads + Sync, T: Feed, C: Feed, P: Past>(
     rt: &R,
     alloc: Global,
     trace: &mut T,
@@ -45,12 +44,12 @@ pub fn judge_stream<R: RandomSource + Threads + Sync, T: Feed, C: Feed + Send, P
         (C.has_ended companion.new)) result }
     ensures unwritten { IfErr result (λ fault. fault ≢ Fault.Write) }
 {
-    let mut listener = Listener::new(alloc, aim, sizes, PidHasher::random(rt));
+    let mut listener = Listener::new(alloc, aim, sizes);
     hear(rt, alloc, trace, companion, &mut listener, past)
 }
 
 /// Hears two inputs to their ends, and tells what they came to.
-fn hear<R: Threads + Sync, T: Feed, C: Feed + Send, P: Past>(
+fn hear<R: Threads + Sync, T: Feed, C: Feed, P: Past>(
     rt: &R,
     alloc: Global,
     trace: &mut T,
@@ -61,7 +60,7 @@ fn hear<R: Threads + Sync, T: Feed, C: Feed + Send, P: Past>(
     requires trace { T.calls trace.old ≡ 0 }
     requires companion { C.calls companion.old ≡ 0 }
     requires nothing { (aim : AimView) × HasHeardNothing aim listener.old }
-    requires unread { listener.old.intake.blocks.reads ≡ 0 }
+    requires unread { listener.old.intake.blocks.source.reads ≡ 0 }
     requires unfed { IsFedBy 0 false false listener.old.intake.course.companion }
     ensures outcome { (aim : AimView) → HasHeardNothing aim listener.old
         → IfOk result (IsHearingOf aim (T.left trace.old) (C.left companion.old)) }

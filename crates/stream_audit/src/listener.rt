@@ -16,7 +16,6 @@ use crate::intake::Intake;
 use crate::{Aim, Judge, Past, Sizes};
 use audit_input::{Fault, Feed};
 use cfs_model::Memory;
-use pid_table::PidHasher;
 use std::alloc::Global;
 use std::thread::{Threads, join_mut};
 use window_audit::first_of_threads;
@@ -33,14 +32,14 @@ pub(crate) struct Listener {
 }
 
 impl Listener {
-    /// Before the first read. Pids are hashed by these keys.
-    pub fn new(alloc: Global, aim: Aim, sizes: Sizes, hasher: PidHasher) -> Listener
+    /// Before the first read.
+    pub fn new(alloc: Global, aim: Aim, sizes: Sizes) -> Listener
         ensures under_way { HasHeardNothing aim result }
-        ensures reads { result.intake.blocks.reads ≡ 0 }
+        ensures reads { result.intake.blocks.source.reads ≡ 0 }
         ensures fed { IsFedBy 0 false false result.intake.course.companion }
     {
         Listener {
-            intake: Intake::new(alloc, aim, sizes, hasher),
+            intake: Intake::new(alloc, aim, sizes),
             judge: None,
             ahead: sizes.reads_ahead(),
         }
@@ -48,7 +47,7 @@ impl Listener {
 
     /// Judges the window that waits, makes the next one, and reads what comes in behind that. Says whether the trace
     /// goes on.
-    pub fn go_on<R: Threads + Sync, T: Feed, C: Feed + Send, P: Past>(
+    pub fn go_on<R: Threads + Sync, T: Feed, C: Feed, P: Past>(
         &mut self,
         rt: &R,
         alloc: Global,
@@ -67,7 +66,7 @@ impl Listener {
             → IfOk result (IsUnderWay aim trace_gave (T.left trace.new) gave (C.left companion.new) self.new) }
         ensures read { IfOk result (IsReadBy (T.left trace.new) (T.calls trace.new) (T.has_failed trace.new)
             (T.has_ended trace.new) self.new.intake.blocks) }
-        ensures read_on { OnOk result (self.old.intake.blocks.reads < self.new.intake.blocks.reads) }
+        ensures read_on { OnOk result (self.old.intake.blocks.source.reads < self.new.intake.blocks.source.reads) }
         ensures taken { OnOk result (IsTakenOut self.new.intake) }
         ensures fed { OnOk result (IsFedBy (C.calls companion.new) (C.has_ended companion.new)
             (C.has_failed companion.new) self.new.intake.course.companion) }
@@ -203,10 +202,9 @@ impl Listener {
     }
 }
 
-/// Judges the window that waits, makes the next one, and makes the reads for the one behind that: each beside the
-/// others by a thread of its own, or one after the other. The companion goes to another thread for that, and the trace
-/// stays.
-fn judge_and_come<R: Threads + Sync, T: Feed, C: Feed + Send>(
+/// Judges the window that waits, makes the next one, reads the lines of the one behind that, and makes the reads for a
+/// fourth one: beside each other, or one after the other. Both inputs stay in the caller's thread.
+fn judge_and_come<R: Threads + Sync, T: Feed, C: Feed>(
     rt: &R,
     alloc: Global,
     calm: bool,
@@ -234,7 +232,7 @@ fn judge_and_come<R: Threads + Sync, T: Feed, C: Feed + Send>(
         intake.new handed) }
     ensures read { IfOk result.1 (IsReadBy (T.left trace.new) (T.calls trace.new) (T.has_failed trace.new)
         (T.has_ended trace.new) intake.new.blocks) }
-    ensures read_on { OnOk result.1 (intake.old.blocks.reads < intake.new.blocks.reads) }
+    ensures read_on { OnOk result.1 (intake.old.blocks.source.reads < intake.new.blocks.source.reads) }
     ensures next { OnOk result.1 (intake.new.next ≤ length intake.new.events.items) }
     ensures fed { OnOk result.1 (IsFedBy (C.calls companion.new) (C.has_ended companion.new)
         (C.has_failed companion.new) intake.new.course.companion) }
@@ -275,7 +273,7 @@ fn judge_and_come<R: Threads + Sync, T: Feed, C: Feed + Send>(
                 intake.entry.now.course intake.exit.now handed) }
             ensures read { IfOk result (IsReadBy (T.left trace.exit.now) (T.calls trace.exit.now)
                 (T.has_failed trace.exit.now) (T.has_ended trace.exit.now) intake.exit.now.blocks) }
-            ensures read_on { OnOk result (intake.entry.now.blocks.reads < intake.exit.now.blocks.reads) }
+            ensures read_on { OnOk result (intake.entry.now.blocks.source.reads < intake.exit.now.blocks.source.reads) }
             ensures next { OnOk result (intake.exit.now.next ≤ length intake.exit.now.events.items) }
             ensures fed { OnOk result (IsFedBy (C.calls companion.exit.now) (C.has_ended companion.exit.now)
                 (C.has_failed companion.exit.now) intake.exit.now.course.companion) }

@@ -12,7 +12,6 @@ use cfs_model::{Memory, least_settings};
 use companion_file::Companion;
 use least_audit::LeastAudit;
 use least_places::{Finding, LeastFigures};
-use pid_table::PidHasher;
 use queue_replay::WindowedReplay;
 use replay_laws::first_faults;
 use replay_model::FirstFault;
@@ -35,20 +34,15 @@ pub enum Progress {
 }
 
 impl Progress {
-    /// Before the first event of a record that begins so. Pids are hashed by these keys.
-    pub fn new(
-        alloc: Global,
-        start: &Companion,
-        aim: Aim,
-        hasher: PidHasher,
-    ) -> Result<Progress, Memory>
+    /// Before the first event of a record that begins so.
+    pub fn new(alloc: Global, start: &Companion, aim: Aim) -> Result<Progress, Memory>
         ensures { IfOk result (IsKnownOf (begun aim start.now) []) }
     {
         if aim.is_least() {
-            let audit = LeastAudit::new(alloc, start, hasher)?;
+            let audit = LeastAudit::new(alloc, start)?;
             return Ok(Progress::Pursuing(audit));
         }
-        let audit = WindowAudit::new(alloc, start, aim.knobs(), hasher)?;
+        let audit = WindowAudit::new(alloc, start, aim.knobs())?;
         Ok(Progress::Running(audit))
     }
 

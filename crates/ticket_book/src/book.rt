@@ -7,7 +7,6 @@ use crate::least_closing::least_on;
 use crate::remaking::{sufficing_own_pages, sufficing_pages};
 use crate::{Closed, ClosedLeast, PostFault};
 use cfs_model::{Knobs, Memory};
-use pid_table::PidHasher;
 use queue_replay::Page;
 use replay_model::StepFault;
 use sched_record::Record;
@@ -21,7 +20,6 @@ pub const NO_FAULT: u64 = u64::MAX;
 pub struct Book {
     slots: Vec<Option<Page>>,
     least: u64,
-    hasher: PidHasher,
     pub ghost kept: { IsBook slots.items least },
 }
 
@@ -36,18 +34,8 @@ impl Book {
     ghost use Rattle.ticket_book.specs.Remade.{AreRemade};
     ghost use Rattle.ticket_book.specs.Verdict.{IsVerdict};
 
-    /// A book without pages for so many processors, at most `MOST_PROCESSORS`, with the room for all their pages. Its
-    /// closing hashes pids by fixed keys: where somebody picks them, give `with_hasher` random ones.
+    /// A book without pages for so many processors, at most `MOST_PROCESSORS`, with the room for all their pages.
     pub fn new(alloc: Global, cpus: u32) -> Result<Book, Memory>
-        requires some { 0 < cpus }
-        requires at_most { cpus ≤ most_processors }
-        ensures { IfOk result (λ book. book_view book ≡ replicate cpus None) }
-    {
-        Book::with_hasher(alloc, cpus, PidHasher::fixed())
-    }
-
-    /// The same, with the keys by which its closing hashes pids.
-    pub fn with_hasher(alloc: Global, cpus: u32, hasher: PidHasher) -> Result<Book, Memory>
         requires some { 0 < cpus }
         requires at_most { cpus ≤ most_processors }
         ensures { IfOk result (λ book. book_view book ≡ replicate cpus None) }
@@ -59,7 +47,6 @@ impl Book {
         Ok(Book {
             slots,
             least: NO_FAULT,
-            hasher,
         })
     }
 
@@ -109,9 +96,8 @@ impl Book {
             → closed.remade ≡ 0) }
     {
         let alloc = *self.slots.allocator();
-        let hasher = self.hasher;
-        let (pages, remade) = sufficing_pages(alloc, self, joined, knobs, hasher)?;
-        let verdict = verdict_on(alloc, &pages, joined, knobs, hasher)?;
+        let (pages, remade) = sufficing_pages(alloc, self, joined, knobs)?;
+        let verdict = verdict_on(alloc, &pages, joined, knobs)?;
         Ok(Closed { verdict, remade })
     }
 
@@ -127,10 +113,9 @@ impl Book {
         ensures few { IfOk result (λ closed. closed.remade ≤ (record_view joined.now).cpus) }
     {
         let alloc = *self.slots.allocator();
-        let hasher = self.hasher;
-        let (pages, remade) = sufficing_own_pages(alloc, self, joined, knobs, hasher)?;
+        let (pages, remade) = sufficing_own_pages(alloc, self, joined, knobs)?;
         Ok(Closed {
-            verdict: verdict_on(alloc, &pages, joined, knobs, hasher)?,
+            verdict: verdict_on(alloc, &pages, joined, knobs)?,
             remade,
         })
     }
@@ -162,9 +147,8 @@ impl Book {
         ensures few { IfOk result (λ closed. closed.0.remade ≤ (record_view joined.now).cpus) }
     {
         let alloc = *self.slots.allocator();
-        let hasher = self.hasher;
-        let (pages, remade) = sufficing_own_pages(alloc, self, joined, Knobs::greatest(), hasher)?;
-        let least = least_on(alloc, &pages, joined, hasher)?;
+        let (pages, remade) = sufficing_own_pages(alloc, self, joined, Knobs::greatest())?;
+        let least = least_on(alloc, &pages, joined)?;
         Ok((ClosedLeast { least, remade }, pages))
     }
 

@@ -9,7 +9,6 @@ ghost use Rattle.ticket_book.specs.WindowBook.{IsBookOf};
 
 use crate::{Verdict, WindowBook};
 use cfs_model::{Knobs, Memory};
-use pid_table::PidHasher;
 use queue_replay::{Page, Paged};
 use replay_laws::{closing, first_faults};
 use replay_model::FirstFault;
@@ -23,13 +22,12 @@ pub(crate) fn verdict_on(
     pages: &[Page],
     joined: &Record,
     knobs: Knobs,
-    hasher: PidHasher,
 ) -> Result<Verdict, Memory>
     requires { AreSufficient knobs (record_view joined.now) pages.now }
     ensures { IfOk result (IsVerdict knobs (record_view joined.now)) }
 {
     closing();
-    let (book, told) = book_of(alloc, pages, joined, hasher)?;
+    let (book, told) = book_of(alloc, pages, joined)?;
     match told {
         Some(fault) => {
             first_faults();
@@ -50,14 +48,13 @@ pub(crate) fn told_by<P: Paged>(
     alloc: Global,
     pages: &[P],
     joined: &Record,
-    hasher: PidHasher,
 ) -> Result<Option<FirstFault>, Memory>
     requires count { length pages.now ≡ (record_view joined.now).cpus }
     requires rise { TicketsRise (map P.page pages.now) }
     ensures { IfOk result (Tell (view_at (map P.page pages.now)) (length pages.now) (record_view joined.now).tasks
         (events_of (record_view joined.now))) }
 {
-    let (_book, told) = book_of(alloc, pages, joined, hasher)?;
+    let (_book, told) = book_of(alloc, pages, joined)?;
     Ok(told)
 }
 
@@ -66,7 +63,6 @@ fn book_of<P: Paged>(
     alloc: Global,
     pages: &[P],
     joined: &Record,
-    hasher: PidHasher,
 ) -> Result<(WindowBook, Option<FirstFault>), Memory>
     requires count { length pages.now ≡ (record_view joined.now).cpus }
     requires rise { TicketsRise (map P.page pages.now) }
@@ -75,7 +71,7 @@ fn book_of<P: Paged>(
     ensures passed { IfOk result (λ made. made.1 ≡ None
         → IsBookOf (record_view joined.now).tasks (events_of (record_view joined.now)) made.0) }
 {
-    let mut book = WindowBook::new(alloc, joined.tasks(), hasher)?;
+    let mut book = WindowBook::new(alloc, joined.tasks())?;
     let told = book.close(alloc, pages, joined.events())?;
     Ok((book, told))
 }

@@ -12,7 +12,6 @@ ghost use Rattle.ticket_book.specs.Whole.{AreSufficient};
 use crate::LeastSettings;
 use crate::closing::told_by;
 use cfs_model::{Amounts, Knobs, Memory, least_settings};
-use pid_table::PidHasher;
 use queue_replay::Page;
 use replay_laws::{closing, first_faults, needs};
 use sched_record::Record;
@@ -23,7 +22,6 @@ pub(crate) fn least_on(
     alloc: Global,
     pages: &[Page],
     joined: &Record,
-    hasher: PidHasher,
 ) -> Result<LeastSettings, Memory>
     requires { AreSufficient greatest_settings (record_view joined.now) pages.now }
     ensures answer { IfOk result (IsLeastAnswer (record_view joined.now)) }
@@ -31,7 +29,7 @@ pub(crate) fn least_on(
 {
     closing();
     least_settings();
-    match told_by(alloc, pages, joined, hasher)? {
+    match told_by(alloc, pages, joined)? {
         Some(fault) => {
             first_faults();
             Ok(LeastSettings::Fault(fault))

@@ -11,7 +11,6 @@ ghost use Rattle.ticket_book.specs.Whole.{AreSufficient, IsWholePageOf};
 
 use crate::remaking::whole_page;
 use cfs_model::{Amounts, Knobs, Memory, Setting};
-use pid_table::PidHasher;
 use queue_replay::{Page, Paged};
 use replay_laws::needs;
 use replay_model::{StepFault, Tally, Ticket};
@@ -64,14 +63,13 @@ pub(crate) fn pages_by<'p>(
     pages: &'p [Page],
     joined: &Record,
     knobs: Knobs,
-    hasher: PidHasher,
 ) -> Result<Vec<PageBy<'p>>, Memory>
     requires { AreFaultless (record_view joined.now) pages.now }
     ensures { IfOk result (λ all. AreSufficient knobs (record_view joined.now) (map (by_view knobs) all.items)) }
 {
     let mut all = Vec::with_capacity(alloc, pages.len())?;
     for cpu in 0..joined.cpus() {
-        all.push(page_by(alloc, &pages[cpu as usize], joined, cpu, knobs, hasher)?)?;
+        all.push(page_by(alloc, &pages[cpu as usize], joined, cpu, knobs)?)?;
     }
     Ok(all)
 }
@@ -83,7 +81,6 @@ fn page_by<'p>(
     joined: &Record,
     cpu: u32,
     knobs: Knobs,
-    hasher: PidHasher,
 ) -> Result<PageBy<'p>, Memory>
     requires cpu { cpu < (record_view joined.now).cpus }
     requires faultless { IsFaultlessPageOf (record_view joined.now) cpu page.now }
@@ -94,7 +91,7 @@ fn page_by<'p>(
     let remade = if are_met(page.needs(), knobs, &Setting::ALL) {
         None
     } else {
-        Some(whole_page(alloc, joined, cpu, knobs, hasher)?)
+        Some(whole_page(alloc, joined, cpu, knobs)?)
     };
     Ok(PageBy { kept: page, remade })
 }

@@ -16,7 +16,6 @@ use crate::least_fault::least_fault;
 use crate::owning::own_slots;
 use crate::relying::is_enough;
 use cfs_model::{Knobs, Memory};
-use pid_table::PidHasher;
 use queue_replay::{Page, Replay};
 use sched_record::Record;
 use std::alloc::Global;
@@ -27,7 +26,6 @@ pub(crate) fn sufficing_pages(
     book: Book,
     joined: &Record,
     knobs: Knobs,
-    hasher: PidHasher,
 ) -> Result<(Vec<Page>, u32), Memory>
     ensures suffice { IfOk result (λ made. AreSufficient knobs (record_view joined.now) made.0.items) }
     ensures remade { IfOk result (λ made. AreRemade knobs (record_view joined.now) (book_view book) made.1) }
@@ -36,7 +34,7 @@ pub(crate) fn sufficing_pages(
 {
     let slots = book.into_slots();
     let own = own_slots(alloc, &slots, joined, knobs)?;
-    gathered_pages(alloc, slots, &own, joined, knobs, hasher)
+    gathered_pages(alloc, slots, &own, joined, knobs)
 }
 
 /// The same of a book whose pages are all the record's own, so that none is compared with it.
@@ -45,7 +43,6 @@ pub(crate) fn sufficing_own_pages(
     book: Book,
     joined: &Record,
     knobs: Knobs,
-    hasher: PidHasher,
 ) -> Result<(Vec<Page>, u32), Memory>
     requires own { AreOwn knobs (record_view joined.now) (book_view book) }
     ensures suffice { IfOk result (λ made. AreSufficient knobs (record_view joined.now) made.0.items) }
@@ -55,7 +52,7 @@ pub(crate) fn sufficing_own_pages(
     ensures few { IfOk result (λ made. made.1 ≤ (record_view joined.now).cpus) }
 {
     let own = Vec::from_elem(alloc, true, joined.cpus() as usize)?;
-    gathered_pages(alloc, book.into_slots(), &own, joined, knobs, hasher)
+    gathered_pages(alloc, book.into_slots(), &own, joined, knobs)
 }
 
 /// The same of a book's slots, where it is told of each whether its page is the record's own.
@@ -65,7 +62,6 @@ fn gathered_pages(
     own: &[bool],
     joined: &Record,
     knobs: Knobs,
-    hasher: PidHasher,
 ) -> Result<(Vec<Page>, u32), Memory>
     requires count { length own.now ≡ (record_view joined.now).cpus }
     requires told { AreToldOwn knobs (record_view joined.now) slots.items own.now }
@@ -84,7 +80,7 @@ fn gathered_pages(
             Some(page) => page,
             None => {
                 remade += 1;
-                whole_page(alloc, joined, cpu, knobs, hasher)?
+                whole_page(alloc, joined, cpu, knobs)?
             }
         };
         pages.push(page)?;
@@ -126,19 +122,13 @@ fn relied_on(slot: Option<Page>, own: bool, least: Option<u64>) -> Option<Page>
     }
 }
 
-/// The page of a record's processor, replayed to its first fault or to the end. Pids are hashed by these keys.
-pub fn whole_page(
-    alloc: Global,
-    joined: &Record,
-    cpu: u32,
-    knobs: Knobs,
-    hasher: PidHasher,
-) -> Result<Page, Memory>
+/// The page of a record's processor, replayed to its first fault or to the end.
+pub fn whole_page(alloc: Global, joined: &Record, cpu: u32, knobs: Knobs) -> Result<Page, Memory>
     requires { cpu < (record_view joined.now).cpus }
     ensures { IfOk result (IsWholePageOf knobs (record_view joined.now) cpu) }
 {
     let stream = joined.deal(cpu)?;
-    let mut replay = match Replay::with_hasher(alloc, stream, knobs, hasher) {
+    let mut replay = match Replay::new(alloc, stream, knobs) {
         Ok(replay) => replay,
         Err((_stream, memory)) => return Err(memory),
     };

@@ -11,7 +11,6 @@ use crate::Summary;
 use crate::event_counts::EventCounts;
 use crate::task_sums::add_all;
 use cfs_model::{Act, Entry, Memory, Task};
-use pid_table::PidHasher;
 use queue_replay::{Paged, Tallies, TallyBook};
 use std::alloc::Global;
 
@@ -32,10 +31,10 @@ impl RunSums {
     ghost use Rattle.ticket_book.specs.SummaryView.{summary_view};
 
     /// Of no events, from these tasks on.
-    pub(crate) fn new(alloc: Global, hasher: PidHasher, tasks: &[Task]) -> Result<RunSums, Memory>
+    pub(crate) fn new(alloc: Global, tasks: &[Task]) -> Result<RunSums, Memory>
         ensures { IfOk result (AreSumsOf tasks.now []) }
     {
-        let mut tallies = TallyBook::new(alloc, hasher);
+        let mut tallies = TallyBook::new(alloc);
         name_tasks(tasks, &mut tallies)?;
         Ok(RunSums {
             events: 0,

@@ -178,11 +178,8 @@ fn have_no_fault<P: Paged>(pages: &[P]) -> bool
 pub(crate) fn is_plain(act: Act) -> bool
     ensures { OnTrue result (IsPlain act) }
 {
-    match act {
-        Act::Switch { .. } => act.ended().is_none(),
-        Act::Wake { .. } => true,
-        Act::Born { .. } | Act::Shift { .. } => false,
-    }
+    let stays = matches!(act, Act::Switch { .. } | Act::Wake { .. });
+    stays & act.ended().is_none()
 }
 
 /// The first thing that they say against a birth.

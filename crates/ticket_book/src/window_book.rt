@@ -4,7 +4,6 @@ use crate::event_counts::EventCounts;
 use crate::run_sums::{RunSums, name_born};
 use crate::walk::{Walk, is_plain};
 use cfs_model::{Entry, Memory, Task};
-use pid_table::PidHasher;
 use queue_replay::Paged;
 use replay_model::FirstFault;
 use std::alloc::Global;
@@ -31,13 +30,13 @@ impl WindowBook {
     ghost use Rattle.ticket_book.specs.Walk.{TicketsRise};
     ghost use Rattle.ticket_book.specs.WindowBook.{IsBookOf, events_in};
 
-    /// The book before the first window, from these tasks on. Pids are hashed by these keys.
-    pub fn new(alloc: Global, tasks: &[Task], hasher: PidHasher) -> Result<WindowBook, Memory>
+    /// The book before the first window, from these tasks on.
+    pub fn new(alloc: Global, tasks: &[Task]) -> Result<WindowBook, Memory>
         ensures { IfOk result (IsBookOf tasks.now []) }
     {
         Ok(WindowBook {
             alive: Alive::new(alloc, tasks)?,
-            sums: RunSums::new(alloc, hasher, tasks)?,
+            sums: RunSums::new(alloc, tasks)?,
         })
     }
 

@@ -6,7 +6,6 @@ use crate::machines::Recording;
 use crate::shelf::OwnShelf;
 use audit_crew::{AuditorFault, OpenGate, auditor};
 use cfs_model::{Knobs, Setting};
-use pid_table::PidHasher;
 use queue_replay::{Page, Reached, Replay, Tag};
 use sched_record::{Record, Stream};
 use std::alloc::Global;
@@ -92,7 +91,6 @@ fn audited(
         stream,
         Knobs::standard(),
         stretch,
-        PidHasher::fixed(),
     );
     Ok((shelf, end))
 }

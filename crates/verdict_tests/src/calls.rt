@@ -6,11 +6,9 @@ use crate::machines::{Lines, Recording};
 use audit_crew::{Gate, OpenGate, audit, audit_serial, crew};
 use cfs_model::{Kind, Knobs, Setting};
 use companion_file::read_companion;
-use pid_table::PidHasher;
 use sched_record::{Record, Stream, join, read_trace};
 use std::alloc::Global;
 use std::process::Abort;
-use std::random::RandomSource;
 use std::sync::Wait;
 use std::test::Fail;
 use std::thread::Threads;
@@ -91,7 +89,7 @@ pub(crate) fn told(closed: Closed) -> Told {
 
 /// One thread's verdict, by the standard settings.
 pub(crate) fn alone(alloc: Global, record: &Record) -> Result<Closed, Fail> {
-    Ok(audit_serial(alloc, record, Knobs::standard(), PidHasher::fixed())?)
+    Ok(audit_serial(alloc, record, Knobs::standard())?)
 }
 
 /// What one thread comes to on a recording.
@@ -120,7 +118,7 @@ fn told_in_windows<R: Threads + Sync>(
 ) -> Result<MaybeFault, Fail> {
     let record = record_of(alloc, recording)?;
     let knobs = Knobs::standard();
-    let verdict = audit_in_windows(rt, alloc, &record, knobs, PidHasher::fixed(), size.max(1))?;
+    let verdict = audit_in_windows(rt, alloc, &record, knobs, size.max(1))?;
     Ok(fault_of(verdict))
 }
 
@@ -139,7 +137,7 @@ pub(crate) fn wants_in_windows<R: Abort + Threads + Sync>(
 }
 
 /// A crew's verdict, by the standard settings.
-pub(crate) fn together<R: RandomSource + Threads + Wait + Sync, G: Gate>(
+pub(crate) fn together<R: Threads + Wait + Sync, G: Gate>(
     rt: &R,
     alloc: Global,
     record: &Record,
@@ -149,7 +147,7 @@ pub(crate) fn together<R: RandomSource + Threads + Wait + Sync, G: Gate>(
 }
 
 /// What a crew comes to on a recording.
-pub(crate) fn told_together<R: RandomSource + Threads + Wait + Sync, G: Gate>(
+pub(crate) fn told_together<R: Threads + Wait + Sync, G: Gate>(
     rt: &R,
     alloc: Global,
     recording: &Recording,
@@ -160,7 +158,7 @@ pub(crate) fn told_together<R: RandomSource + Threads + Wait + Sync, G: Gate>(
 }
 
 /// How many pages a crew posts, and the least line of a fault on them.
-fn gathered_on<R: RandomSource + Threads + Wait + Sync, G: Gate>(
+fn gathered_on<R: Threads + Wait + Sync, G: Gate>(
     rt: &R,
     alloc: Global,
     record: &Record,
@@ -171,7 +169,7 @@ fn gathered_on<R: RandomSource + Threads + Wait + Sync, G: Gate>(
 }
 
 /// The same on a recording.
-pub(crate) fn gathered<R: RandomSource + Threads + Wait + Sync, G: Gate>(
+pub(crate) fn gathered<R: Threads + Wait + Sync, G: Gate>(
     rt: &R,
     alloc: Global,
     recording: &Recording,
@@ -182,7 +180,7 @@ pub(crate) fn gathered<R: RandomSource + Threads + Wait + Sync, G: Gate>(
 }
 
 /// The least settings of a record, by a crew.
-fn least_of<R: RandomSource + Threads + Wait + Sync>(
+fn least_of<R: Threads + Wait + Sync>(
     rt: &R,
     alloc: Global,
     record: &Record,
@@ -200,7 +198,7 @@ fn drift_of(least: &LeastSettings) -> Option<u64> {
 }
 
 /// The least drift of a recording, where it is a run at some settings.
-pub(crate) fn drift_needed<R: RandomSource + Threads + Wait + Sync>(
+pub(crate) fn drift_needed<R: Threads + Wait + Sync>(
     rt: &R,
     alloc: Global,
     recording: &Recording,

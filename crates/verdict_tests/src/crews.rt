@@ -8,7 +8,6 @@ use audit_crew::{AuditorFault, OpenGate};
 use cfs_model::Kind;
 use sched_record::Record;
 use std::alloc::Global;
-use std::random::RandomSource;
 use std::sync::Wait;
 use std::test::Fail;
 use std::thread::Threads;
@@ -42,7 +41,7 @@ fn compared(closed: Closed, alone: Closed) -> (bool, Told) {
 }
 
 /// Whether a crew and one thread agree in all on a recording, and what they come to.
-fn both<R: RandomSource + Threads + Wait + Sync>(
+fn both<R: Threads + Wait + Sync>(
     rt: &R,
     alloc: Global,
     recording: &Recording,
@@ -114,16 +113,12 @@ fn three_faults_on_64_processors(alloc: Global) -> Result<Record, Fail> {
 }
 
 /// What a crew comes to on a record.
-fn told_on<R: RandomSource + Threads + Wait + Sync>(
-    rt: &R,
-    alloc: Global,
-    record: &Record,
-) -> Result<Told, Fail> {
+fn told_on<R: Threads + Wait + Sync>(rt: &R, alloc: Global, record: &Record) -> Result<Told, Fail> {
     Ok(told(together(rt, alloc, record, &OpenGate)?))
 }
 
 /// How many of a thousand crews come to this.
-fn count_that_tell<R: RandomSource + Threads + Wait + Sync>(
+fn count_that_tell<R: Threads + Wait + Sync>(
     rt: &R,
     alloc: Global,
     record: &Record,
@@ -139,11 +134,7 @@ fn count_that_tell<R: RandomSource + Threads + Wait + Sync>(
 }
 
 /// The same on the record of 64 processors.
-fn count_on_64<R: RandomSource + Threads + Wait + Sync>(
-    rt: &R,
-    alloc: Global,
-    wanted: Told,
-) -> Result<u32, Fail> {
+fn count_on_64<R: Threads + Wait + Sync>(rt: &R, alloc: Global, wanted: Told) -> Result<u32, Fail> {
     let record = three_faults_on_64_processors(alloc)?;
     count_that_tell(rt, alloc, &record, wanted)
 }

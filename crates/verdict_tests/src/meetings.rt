@@ -10,7 +10,6 @@ use audit_crew::Gate;
 use cfs_model::Knobs;
 use sched_audit::{Fault, FeedOf, SinkOf, Status, audit_texts, run};
 use std::alloc::Global;
-use std::random::RandomSource;
 use std::sync::Wait;
 use std::sync::atomic::{AtomicBool, AtomicU64, Ordering};
 use std::test::Fail;
@@ -93,7 +92,7 @@ fn meetings() -> [(&'static Recording, u64, &'static str); 2] {
 }
 
 /// How many pages a crew posts that meets at a gate, and the gate's entries.
-fn gathered_at<R: RandomSource + Threads + Wait + Clock + Sync>(
+fn gathered_at<R: Threads + Wait + Clock + Sync>(
     rt: &R,
     alloc: Global,
     recording: &Recording,
@@ -113,7 +112,7 @@ fn auditors_of_a_crew_wait_for_each_other(rt: HostRuntime) -> Result<(), Fail> {
 }
 
 /// What a crew comes to that meets at a gate, and the gate's entries.
-fn judged_at<R: RandomSource + Threads + Wait + Clock + Sync>(
+fn judged_at<R: Threads + Wait + Clock + Sync>(
     rt: &R,
     alloc: Global,
     recording: &Recording,
@@ -143,7 +142,7 @@ fn auditors_learn_of_a_fault_before_their_second_stretch(rt: HostRuntime) -> Res
 }
 
 /// What the audit of two texts comes to, by the standard settings.
-fn texts_by<R: RandomSource + Threads + Wait + Sync, G: Gate>(
+fn texts_by<R: Threads + Wait + Sync, G: Gate>(
     rt: &R,
     alloc: Global,
     trace: &[u8],
@@ -155,7 +154,7 @@ fn texts_by<R: RandomSource + Threads + Wait + Sync, G: Gate>(
 }
 
 /// The same where the auditors meet at a gate, and the gate's entries.
-fn texts_at<R: RandomSource + Threads + Wait + Clock + Sync>(
+fn texts_at<R: Threads + Wait + Clock + Sync>(
     rt: &R,
     alloc: Global,
     recording: &Recording,
@@ -181,7 +180,7 @@ fn auditors_of_two_texts_wait_for_each_other(rt: HostRuntime) -> Result<(), Fail
 type Ran = (Result<Status, Fault>, bool);
 
 /// What a run of two texts comes to, by the standard settings.
-fn run_by<R: RandomSource + Threads + Wait + Sync, G: Gate>(
+fn run_by<R: Threads + Wait + Sync, G: Gate>(
     rt: &R,
     alloc: Global,
     texts: (&[u8], &[u8]),
@@ -203,7 +202,7 @@ fn run_by<R: RandomSource + Threads + Wait + Sync, G: Gate>(
 }
 
 /// The same where the auditors meet at a gate, and the gate's entries.
-fn run_at<R: RandomSource + Threads + Wait + Clock + Sync>(
+fn run_at<R: Threads + Wait + Clock + Sync>(
     rt: &R,
     alloc: Global,
     recording: &Recording,

@@ -7,7 +7,6 @@ use crate::machines::THREE_FAULTS_ON_THREE_PROCESSORS;
 use audit_crew::Gate;
 use queue_replay::Reached::Faulted;
 use std::alloc::Global;
-use std::random::RandomSource;
 use std::sync::Wait;
 use std::sync::atomic::{AtomicBool, AtomicU64, Ordering};
 use std::test::Fail;
@@ -153,7 +152,7 @@ impl<C: Clock + Sync> Gate for InOrder<'_, C> {
 }
 
 /// What a crew that leaves in this order comes to, and whether one of it waited up to the limit.
-fn judged_in<R: RandomSource + Threads + Wait + Clock + Sync>(
+fn judged_in<R: Threads + Wait + Clock + Sync>(
     rt: &R,
     alloc: Global,
     order: [u32; 3],
@@ -164,7 +163,7 @@ fn judged_in<R: RandomSource + Threads + Wait + Clock + Sync>(
 }
 
 /// How many pages such a crew posts, and the least line of a fault on them.
-fn gathered_in<R: RandomSource + Threads + Wait + Clock + Sync>(
+fn gathered_in<R: Threads + Wait + Clock + Sync>(
     rt: &R,
     alloc: Global,
     order: [u32; 3],

@@ -7,7 +7,7 @@ ghost use Rattle.waiting_times.specs.declared.task_row.TaskRow.{TaskRow as RowOf
 use crate::Moment;
 use crate::task_row::{Stand, TaskRow};
 use cfs_model::Memory;
-use pid_table::{PidHasher, PidTable};
+use pid_table::PidTable;
 use std::alloc::Global;
 
 /// A row for each task, found by its pid.
@@ -18,12 +18,12 @@ pub(crate) struct TaskRows {
 
 impl TaskRows {
     /// No row.
-    pub fn new(alloc: Global, hasher: PidHasher) -> TaskRows
+    pub fn new(alloc: Global) -> TaskRows
         ensures pids { result.table.pids ≡ [] }
         ensures rows { result.table.rows ≡ [] }
     {
         TaskRows {
-            table: PidTable::new(alloc, hasher),
+            table: PidTable::new(alloc),
         }
     }
 

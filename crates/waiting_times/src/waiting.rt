@@ -14,29 +14,28 @@ use crate::rows::TaskRows;
 use crate::task_row::Stand;
 use crate::{Moment, TaskWaits};
 use cfs_model::{Act, Entry, IDLE_PID, Memory, Task, Way};
-use pid_table::PidHasher;
 use sched_record::Record;
 use std::alloc::{AllocError, Global};
 
 /// How often and how long each task of a record waited, in the order of the report of a run: the companion's tasks,
 /// then those that are born. Where the record's events are no run nothing is said of it.
-pub fn waits_of(alloc: Global, joined: &Record, hasher: PidHasher) -> Result<Vec<TaskWaits>, Memory>
+pub fn waits_of(alloc: Global, joined: &Record) -> Result<Vec<TaskWaits>, Memory>
     // The waits in the states of that run, at whichever settings it is one.
     ensures { (knobs : KnobsView)
         → (run : IsRun knobs (record_view joined.now).start (first_state (record_view joined.now))
         (said_events (record_view joined.now)))
         → IfOk result (λ told. AreWaits (record_view joined.now) run.states told.items) }
 {
-    Ok(told_by(alloc, joined, hasher)?)
+    Ok(told_by(alloc, joined)?)
 }
 
 /// The same by the rows of the tasks.
-fn told_by(alloc: Global, joined: &Record, hasher: PidHasher) -> Result<Vec<TaskWaits>, Memory>
+fn told_by(alloc: Global, joined: &Record) -> Result<Vec<TaskWaits>, Memory>
     ensures { IfOk result (λ told. told.items
         ≡ map (told_along (record_view joined.now)) (tasks_of_run (record_view joined.now).tasks
         (said_events (record_view joined.now)))) }
 {
-    let mut rows = TaskRows::new(alloc, hasher);
+    let mut rows = TaskRows::new(alloc);
     name_tasks(joined.tasks(), &mut rows)?;
     name_born(joined.events(), &mut rows)?;
     put_tasks(joined.tasks(), Moment::edge(joined.start()), &mut rows);

@@ -5,7 +5,6 @@ use crate::member::Member;
 use crate::members::{forget_all, go_through_all, members_of, want_memory};
 use cfs_model::{Knobs, Memory};
 use companion_file::Companion;
-use pid_table::PidHasher;
 use queue_replay::WindowedReplay;
 use replay_model::FirstFault;
 use sched_record::Window;
@@ -29,13 +28,8 @@ impl WindowAudit {
     ghost use Rattle.window_audit.specs.Audit.{Beginning, ComesNext, IsAuditOf, IsSummaryOf, IsToldOf, IsWhole};
     ghost use Rattle.ticket_book.specs.SummaryView.{summary_view};
 
-    /// The audit before the first window, from a start state on. Pids are hashed by these keys.
-    pub fn new(
-        alloc: Global,
-        companion: &Companion,
-        knobs: Knobs,
-        hasher: PidHasher,
-    ) -> Result<WindowAudit, Memory>
+    /// The audit before the first window, from a start state on.
+    pub fn new(alloc: Global, companion: &Companion, knobs: Knobs) -> Result<WindowAudit, Memory>
         ensures { let of = companion_view companion.now in
             IfOk result (IsAuditOf (record {
               knobs = knobs;
@@ -47,8 +41,8 @@ impl WindowAudit {
     {
         beginnings();
         Ok(WindowAudit {
-            members: members_of(alloc, companion, knobs, hasher)?,
-            book: WindowBook::new(alloc, companion.tasks(), hasher)?,
+            members: members_of(alloc, companion, knobs)?,
+            book: WindowBook::new(alloc, companion.tasks())?,
         })
     }
 

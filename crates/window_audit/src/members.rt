@@ -13,7 +13,6 @@ use crate::member::Member;
 use crate::starting::first_of_threads;
 use cfs_model::{Knobs, Memory};
 use companion_file::Companion;
-use pid_table::PidHasher;
 use queue_replay::WindowedReplay;
 use sched_record::{Window, deal_start};
 use std::alloc::Global;
@@ -32,7 +31,6 @@ pub(crate) fn members_of(
     alloc: Global,
     companion: &Companion,
     knobs: Knobs,
-    hasher: PidHasher,
 ) -> Result<Vec<Member>, Memory>
     ensures count { IfOk result (λ members. length members.items ≡ (companion_view companion.now).cpus) }
     ensures own { IfOk result (λ members. AreOwn knobs 0 members.items) }
@@ -42,19 +40,13 @@ pub(crate) fn members_of(
 {
     let mut members = Vec::new(alloc);
     for cpu in 0..companion.cpus() {
-        members.push(member_of(alloc, companion, cpu, knobs, hasher)?)?;
+        members.push(member_of(alloc, companion, cpu, knobs)?)?;
     }
     Ok(members)
 }
 
 /// The member of one processor.
-fn member_of(
-    alloc: Global,
-    companion: &Companion,
-    cpu: u32,
-    knobs: Knobs,
-    hasher: PidHasher,
-) -> Result<Member, Memory>
+fn member_of(alloc: Global, companion: &Companion, cpu: u32, knobs: Knobs) -> Result<Member, Memory>
     requires { cpu < (companion_view companion.now).cpus }
     ensures cpu { IfOk result (λ member. (replay_of member).cpu ≡ cpu) }
     ensures knobs { IfOk result (λ member. (replay_of member).knobs ≡ knobs) }
@@ -63,7 +55,7 @@ fn member_of(
         IfOk result (λ member. IsStartOf (cut of.start of.floors of.tasks [] cpu) (replay_of member).state) }
 {
     let stream = deal_start(alloc, companion, cpu)?;
-    let replay = WindowedReplay::new(alloc, &stream, knobs, hasher)?;
+    let replay = WindowedReplay::new(alloc, &stream, knobs)?;
     Ok(Member::new(alloc, replay))
 }
 

@@ -4,7 +4,6 @@ ghost use Rattle.ticket_book.specs.Verdict.{IsVerdict};
 
 use crate::WindowAudit;
 use cfs_model::{Knobs, Memory};
-use pid_table::PidHasher;
 use replay_laws::first_faults;
 use sched_record::{Record, Window};
 use std::alloc::Global;
@@ -18,7 +17,6 @@ pub fn audit_in_windows<R: Threads + Sync>(
     alloc: Global,
     joined: &Record,
     knobs: Knobs,
-    hasher: PidHasher,
     size: usize,
 ) -> Result<Verdict, Memory>
     requires { 0 < size }
@@ -28,7 +26,7 @@ pub fn audit_in_windows<R: Threads + Sync>(
     first_faults();
     // No sum is too great: no time is above the last, there are no more events than lines, and the drift is a setting.
     let _last = (joined.last_time(), joined.last_line(), knobs.drift());
-    let mut audit = WindowAudit::new(alloc, joined.companion(), knobs, hasher)?;
+    let mut audit = WindowAudit::new(alloc, joined.companion(), knobs)?;
     let mut window = Window::new(alloc);
     let count = joined.events().len();
     let mut from = 0;

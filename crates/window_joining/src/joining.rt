@@ -172,7 +172,7 @@ impl Joining {
         ensures passed { OnOk result (Passes head.now.cpus head.now.start (news_of claim) event.now self.old self.new) }
     {
         window.add(
-            *event,
+            event,
             Saying {
                 claim,
                 nice: None,
@@ -218,7 +218,7 @@ impl Joining {
         let (charges, charge) = between(charges, self.hints.charges, self.line, line);
         let (idles, idle) = between(head.idles(), self.hints.idles, self.line, line);
         let saying = self.saying(claims, nices, charges, idles, event);
-        window.add(*event, saying)?;
+        window.add(event, saying)?;
         self.pass(head, claims, nices, charges, idles, event)?;
         self.hints = Hints {
             claims: claim,

@@ -11,7 +11,7 @@ invariant-loop-goes_on g l =
     let feed = g.F.Feed in
     let reads = g.L.LineReader.reads in
     record {
-      counted : feed.calls l.feed ≡ l.blocks.reads;
+      counted : feed.calls l.feed ≡ l.blocks.source.reads;
       ended : feed.has_ended l.feed ≡ not l.goes_on;
       heard : feed.has_failed l.feed ≡ false;
       at_end : l.goes_on ≡ false → IsAtEnd (feed.left l.feed);
@@ -21,4 +21,4 @@ invariant-loop-goes_on g l =
     }
 
 abbrev pub decreases-loop-goes_on : goal.decreases-loop-goes_on
-decreases-loop-goes_on g l = most_reads - l.blocks.reads
+decreases-loop-goes_on g l = most_reads - l.blocks.source.reads

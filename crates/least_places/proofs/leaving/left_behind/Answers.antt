@@ -13,7 +13,7 @@ use Rattle.least_places.proofs.leaving.left_behind.Goals as goal
 
 -- src/leaving.rt:92:1
 pub returns-in-Some : goal.returns-in-Some
-returns-in-Some g c =
+returns-in-Some c =
     let r = record_view c.args.joined.now in
     let order = c.args.joined.now.in_order in
     let run = c.requires.least.0.run in
@@ -39,7 +39,7 @@ returns-in-Some g c =
 
 -- src/leaving.rt:81:1
 pub returns : goal.returns
-returns g c =
+returns c =
     let r = record_view c.args.joined.now in
     let order = c.args.joined.now.in_order in
     let run = c.requires.least.0.run in

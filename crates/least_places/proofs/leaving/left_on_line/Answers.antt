@@ -7,14 +7,14 @@ use Rattle.least_places.proofs.leaving.left_on_line.Goals as goal
 
 -- src/leaving.rt:53:22
 pub left_behind-requires-clause-cpu : goal.left_behind-requires-clause-cpu
-left_behind-requires-clause-cpu g c =
+left_behind-requires-clause-cpu c =
     let r = record_view c.args.joined.now in
     switch_within r r.cpus c.args.line c.in-Some.cpu (is_record r c.args.joined.now.in_order).events_within
     (ap (λ es. switched_on_line es c.args.line) (sym c.events.ensures) ∙ sym c.switched_on.ensures ∙ c.in-Some.is)
 
 -- src/leaving.rt:42:1
 pub returns-in-Some : goal.returns-in-Some
-returns-in-Some g c =
+returns-in-Some c =
     let r = record_view c.args.joined.now in
     ok_map (left_if_switch r c.args.knobs (is_record r c.args.joined.now.in_order).lines_rise c.args.line c.in-Some.cpu)
     (ap (λ es. switched_on_line es c.args.line) (sym c.events.ensures) ∙ sym c.switched_on.ensures ∙ c.in-Some.is)
@@ -22,7 +22,7 @@ returns-in-Some g c =
 
 -- src/leaving.rt:42:1
 pub returns-in-None : goal.returns-in-None
-returns-in-None g c =
+returns-in-None c =
     let r = record_view c.args.joined.now in
     left_if_none r c.args.knobs (is_record r c.args.joined.now.in_order).lines_rise c.args.line
     (ap (λ es. switched_on_line es c.args.line) (sym c.events.ensures) ∙ sym c.switched_on.ensures ∙ c.in-None.is)

@@ -6,7 +6,7 @@ use Rattle.least_places.proofs.NeededFirst.{no_run}
 use Rattle.least_places.proofs.placing.place_by.Goals as goal
 
 pub unreachable-requires : goal.unreachable-requires
-unreachable-requires g c =
+unreachable-requires c =
     let r = record_view c.args.joined.now in
     no_run r c.args.knobs c.args.setting c.requires.least c.requires.some
     (subst (IsFaultOf (one_less c.args.knobs c.args.setting) r) c.in-None.is c.requires.fault)

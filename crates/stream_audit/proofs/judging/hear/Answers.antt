@@ -88,7 +88,7 @@ returns-in_err-read_rest-clause-reads g c =
     told_by _ _ c.from_residual-in_err-read_rest.result c.in_err-read_rest.field-0.0
     c.from_residual-in_err-read_rest.ensures.1
     (companion_cut _ _ _ failed.cut_short (read_to_end _ _ read.ended c.loop-goes_on-test.false) read.heard (
-      subst (λ (n : ℕ). n ≤ most_reads) (sym read.counted) c.loop-goes_on.listener.intake.blocks.bounded,
+      subst (λ (n : ℕ). n ≤ most_reads) (sym read.counted) c.loop-goes_on.listener.intake.blocks.source.bounded,
       failed.bounded,
     ))
 
@@ -154,7 +154,7 @@ returns-clause-reads g c =
       read.at_end c.loop-goes_on-test.false,
       none_left aim gave _ reader course listener.judge under.bytes heard rest.done,
     ) (read.heard, rest.fed.heard) (
-      subst (λ (n : ℕ). n ≤ most_reads) (sym read.counted) c.loop-goes_on.listener.intake.blocks.bounded,
+      subst (λ (n : ℕ). n ≤ most_reads) (sym read.counted) c.loop-goes_on.listener.intake.blocks.source.bounded,
       few_reads _ _ _ course.companion rest.fed,
     )
 
@@ -165,7 +165,7 @@ returns-in_err-hearing_of-clause-reads g c =
     told_by _ _ c.from_residual-in_err-hearing_of.result Memory c.from_residual-in_err-hearing_of.ensures.1
     (companion_cut _ _ Memory (inl (refl, fed.heard)) (read_to_end _ _ read.ended c.loop-goes_on-test.false)
     read.heard (
-      subst (λ (n : ℕ). n ≤ most_reads) (sym read.counted) c.loop-goes_on.listener.intake.blocks.bounded,
+      subst (λ (n : ℕ). n ≤ most_reads) (sym read.counted) c.loop-goes_on.listener.intake.blocks.source.bounded,
       few_reads _ _ _ c.read_rest.new.self.intake.course.companion fed,
     ))
 

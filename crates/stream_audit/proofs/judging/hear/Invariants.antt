@@ -23,4 +23,4 @@ invariant-loop-goes_on g l =
     }
 
 abbrev pub decreases-loop-goes_on : goal.decreases-loop-goes_on
-decreases-loop-goes_on g l = most_reads - l.listener.intake.blocks.reads
+decreases-loop-goes_on g l = most_reads - l.listener.intake.blocks.source.reads

@@ -9,12 +9,12 @@ invariant-loop-goes_on g l =
     let feed = g.F.Feed in
     let reads = g.L.LineReader.reads in
     record {
-      counted : feed.calls l.feed ≡ l.self.reads;
+      counted : feed.calls l.feed ≡ l.self.source.reads;
       ended : feed.has_ended l.feed ≡ not l.goes_on;
-      told : feed.has_ended l.feed ≡ l.self.ended;
+      told : feed.has_ended l.feed ≡ l.self.source.ended;
       heard : feed.has_failed l.feed ≡ feed.has_failed l.fn.feed;
-      read_on : l.fn.self.reads < l.self.reads;
-      so_far : l.self.reads + l.left ≡ l.fn.self.reads + 1 + l.fn.most;
+      read_on : l.fn.self.source.reads < l.self.source.reads;
+      so_far : l.self.source.reads + l.left ≡ l.fn.self.source.reads + 1 + l.fn.most;
       left : 0 < l.fn.most → 0 < l.left;
       at_end : l.goes_on ≡ false → IsAtEnd (feed.left l.feed);
       passed : (gave : Option (List ℕ)) (done : List ℕ) → IsAmid reads gave (feed.left l.fn.feed) l.fn.self done

@@ -9,7 +9,7 @@ use Rattle.sched_record.proofs.window.Window.add.Goals as goal
 pub returns-clause-added : goal.returns-clause-added
 returns-clause-added c =
     let old = c.args.self.now in
-    let event = c.args.event in
+    let event = c.args.event.now in
     let saying = c.args.saying in
     let events = c.push_reserved.ensures.items ∙ ap (λ es. es ++ event ∷ []) c.in_ok-reserve.ensures.items in
     ap (λ es. said_beside es c.push.new.self) events
@@ -19,7 +19,7 @@ returns-clause-added c =
 pub invariant_of-self-2 : goal.invariant_of-self-2
 invariant_of-self-2 c =
     let old = c.args.self.now in
-    let event = c.args.event in
+    let event = c.args.event.now in
     let events = c.push_reserved.ensures.items ∙ ap (λ es. es ++ event ∷ []) c.in_ok-reserve.ensures.items in
     let n = c.len.ensures in
     let k = c.reserve.new.self.ok in

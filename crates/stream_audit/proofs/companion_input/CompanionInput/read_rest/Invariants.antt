@@ -16,4 +16,4 @@ invariant-loop-self g l =
     }
 
 abbrev pub decreases-loop-self : goal.decreases-loop-self
-decreases-loop-self g l = most_reads - l.self.blocks.reads
+decreases-loop-self g l = most_reads - l.self.blocks.source.reads

@@ -37,3 +37,6 @@ returns-clause-heard g c = λ aim gave bytes handed pending judged.
     (known_stays old c.join_last.new.self.course handed c.judge_waiting.new.judge joined.aim ready.1 joined.starts
     (c.in_ok-judge_waiting.ensures old handed
     (calm_told _ c.is_calm-calm.result c.is_calm-calm.ensures.found) judged))
+
+pub returns-clause-fed : goal.returns-clause-fed
+returns-clause-fed g c = c.in_ok-hand_on.ensures.fed _ _ _ c.in_ok-join_last.ensures.fed

@@ -13,6 +13,9 @@ use sched_record::Record;
 use std::alloc::{AllocError, Global};
 use ticket_book::{Summary, Verdict};
 
+/// No more bytes than so many a tally's line has, mostly.
+const TALLY_BYTES: usize = 64;
+
 // Writes lines at the end of a text, each with its line feed.
 macro_rules! lines {
     ($text:ident; $($line:literal),+) => {{
@@ -120,6 +123,8 @@ pub(crate) fn push_counts(text: &mut String, summary: &Summary) -> Result<(), Al
 fn push_tallies(text: &mut String, tallies: &[Tally]) -> Result<(), AllocError>
     ensures { OnOk result (string_bytes text.new ≡ string_bytes text.old ++ tally_lines tallies.now) }
 {
+    // At once, so that a long text isn't moved as it grows.
+    text.reserve(tallies.len().saturating_mul(TALLY_BYTES))?;
     let mut digits = Buffer::new();
     for tally in tallies {
         push_tally(text, tally, &mut digits)?;
@@ -139,6 +144,7 @@ fn push_tally(text: &mut String, tally: &Tally, digits: &mut Buffer) -> Result<(
 }
 
 /// Writes a number behind these words.
+#[inline(always)]
 fn push_number<I: Integer>(
     text: &mut String,
     words: &str,

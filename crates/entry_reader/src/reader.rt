@@ -172,7 +172,8 @@ impl EntryReader {
                         cause,
                     });
                 } else {
-                    self.entries.push(entry)?;
+                    self.entries.reserve(1)?;
+                    self.entries.push_reserved(entry);
                     self.last = time;
                     self.count = number;
                 }

@@ -65,6 +65,14 @@ impl<V> PidTable<V> {
         &self.rows
     }
 
+    /// The rows alone, in the order of their pids.
+    pub fn into_rows(self) -> Vec<V>
+        ensures { result.items ≡ self.rows }
+    {
+        let Self { rows, .. } = self;
+        rows
+    }
+
     /// Where the row of a pid is, if it has one.
     #[inline(always)]
     pub fn index_of(&self, pid: u32) -> Option<usize>
@@ -92,6 +100,18 @@ impl<V> PidTable<V> {
         if self.stands_at(pid, expected) {
             return Some(expected);
         }
+        self.index_elsewhere(pid)
+    }
+
+    /// The same as `index_of` by a call, for where few pids are sought: whoever expects a row at the right index keeps
+    /// no register for the others.
+    #[cold]
+    #[inline(never)]
+    fn index_elsewhere(&self, pid: u32) -> Option<usize>
+        ensures index { result ≡ index_in self.now.pids pid }
+        ensures within { IfSome result (λ index. index < length self.now.rows) }
+        ensures sound { AreSound self.now }
+    {
         self.index_of(pid)
     }
 
@@ -107,6 +127,7 @@ impl<V> PidTable<V> {
 
     /// The same as `index_of`, by going through all pids: for one whose place another has, which only a pid above 2^22
     /// can come to.
+    #[cold]
     #[inline(never)]
     fn index_by_search(&self, pid: u32) -> Option<usize>
         ensures index { result ≡ index_in self.now.pids pid }

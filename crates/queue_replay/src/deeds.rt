@@ -142,7 +142,7 @@ pub(crate) fn try_wake(
 }
 
 #[inline(always)]
-fn try_birth(
+pub(crate) fn try_birth(
     queue: &mut Runqueue,
     cpu: u32,
     step: &Step,

@@ -1,12 +1,12 @@
 ghost use Rattle.std.specs.Prelude.{◌≡◌, ⊤, None, IfOk};
 ghost use Rattle.replay_model.specs.Deeds.{reniced};
-ghost use Rattle.replay_model.specs.declared.step.Deed.TheVariants.{Arrive, Leave, Wake};
+ghost use Rattle.replay_model.specs.declared.step.Deed.TheVariants.{Arrive, Born, Leave, Wake};
 ghost use Rattle.replay_model.specs.declared.step.Step.{Step as StepOf};
 ghost use Rattle.runqueue.specs.Queue.{runqueue_view};
 ghost use Rattle.queue_replay.specs.Rows.{HoldsUnmade, IsTried, NamesMade, switch_deed};
 
 use crate::context_switch::ContextSwitch;
-use crate::deeds::{try_arrival, try_leave, try_switch, try_wake};
+use crate::deeds::{try_arrival, try_birth, try_leave, try_switch, try_wake};
 use crate::outcome::Outcome;
 use crate::renice::try_step;
 use cfs_model::{Knobs, Memory, Nice, Policy};
@@ -87,6 +87,29 @@ impl KnownDeed for Wakeup {
         knobs: &Knobs,
     ) -> Result<Outcome, Memory> {
         try_wake(queue, step, self.pid, self.nice, knobs)
+    }
+}
+
+/// A task that is born, where no nice value changes.
+#[derive(Clone, Copy)]
+pub(crate) struct Birth {
+    pub pid: u32,
+    pub nice: Nice,
+    pub policy: Policy,
+}
+
+impl KnownDeed for Birth {
+    ghost is_of = { λ birth step. (step.nice ≡ None) × (step.deed ≡ Born birth.pid birth.nice birth.policy) };
+
+    #[inline(always)]
+    fn try_on(
+        &self,
+        queue: &mut Runqueue,
+        cpu: u32,
+        step: &Step,
+        knobs: &Knobs,
+    ) -> Result<Outcome, Memory> {
+        try_birth(queue, cpu, step, self.pid, self.nice, self.policy, knobs)
     }
 }
 

@@ -10,7 +10,7 @@ ghost use Rattle.queue_replay.specs.ReplayState.{IsGoing, IsPassed, IsStepped, I
 ghost use Rattle.queue_replay.specs.ReplayState.{replay_state_view};
 
 use crate::context_switch::ContextSwitch;
-use crate::known_deed::{AnyDeed, Arrival, KnownDeed, Leaving, Wakeup};
+use crate::known_deed::{AnyDeed, Arrival, Birth, KnownDeed, Leaving, Wakeup};
 use crate::needs::raise;
 use crate::outcome::Outcome;
 use crate::page_draft::PageDraft;
@@ -48,7 +48,7 @@ impl ReplayState {
         match step.deed {
             Deed::Switch { .. } => self.switch(cpu, step, knobs),
             Deed::Wake { .. } => self.wake(cpu, step, knobs),
-            Deed::Born { .. } => self.any_step(cpu, step, knobs),
+            Deed::Born { .. } => self.be_born(cpu, step, knobs),
             Deed::Leave { .. } => self.leave(cpu, step, knobs),
             Deed::Arrive { .. } => self.arrive(cpu, step, knobs),
         }
@@ -111,6 +111,26 @@ impl ReplayState {
             (None, Deed::Wake { pid, nice }) => {
                 let deed = Deed::Wake { pid, nice };
                 self.step_of(cpu, step, &deed, &Wakeup { pid, nice }, knobs)
+            }
+            _ => self.any_step(cpu, step, knobs),
+        }
+    }
+
+    /// The same, by code for a birth.
+    #[inline(never)]
+    fn be_born(&mut self, cpu: u32, step: &Step, knobs: &Knobs) -> Result<(), Memory>
+        requires going { IsGoing self.old }
+        requires few { self.old.made < 2 ^ 64 - 1 }
+        ensures made { OnOk result (self.new.made ≡ self.old.made + 1) }
+        ensures stepped { OnOk result (IsStepped knobs.now cpu (replay_state_view self.old)
+            self.old.needs step.now self.new) }
+        ensures memory { OnErr result (IsGoing self.new × (replay_state_view self.new ≡ replay_state_view self.old)
+            × (self.new.made ≡ self.old.made) × (self.new.needs ≡ self.old.needs)) }
+    {
+        match (step.nice, step.deed) {
+            (None, Deed::Born { pid, nice, policy }) => {
+                let deed = Deed::Born { pid, nice, policy };
+                self.step_of(cpu, step, &deed, &Birth { pid, nice, policy }, knobs)
             }
             _ => self.any_step(cpu, step, knobs),
         }

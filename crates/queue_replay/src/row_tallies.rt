@@ -1,4 +1,5 @@
 ghost use Rattle.std.specs.Prelude.{◌≡◌, ◌≢◌, ℕ, ◌-◌, ◌^◌, ◌<◌, ◌≤◌, Some, None, IfOk, OnOk, map, get_or, length, All};
+ghost use Rattle.std.specs.Prelude.{true};
 ghost use Rattle.std.specs.Prelude.{vec_len, vec_capacity};
 ghost use Rattle.replay_model.specs.Noted.{new_tally, with_tally};
 ghost use Rattle.replay_model.specs.declared.page.Tally.{Tally as TallyOf};
@@ -80,7 +81,26 @@ impl RowTallies {
         ensures room { (vec_len self.new.list ≡ vec_len self.old.list)
             × (vec_capacity self.new.list ≡ vec_capacity self.old.list) }
     {
-        if let Some(index) = self.index_near(expected, stretch.pid) {
+        if self.stands_at(expected, stretch.pid) {
+            add_run(&mut self.list[expected], stretch);
+        } else {
+            self.add_stretch_by_search(stretch, steps);
+        }
+    }
+
+    /// The same, where the tally is searched for. What is seldom called keeps no register of the others from them.
+    #[cold]
+    #[inline(never)]
+    fn add_stretch_by_search(&mut self, stretch: Stretch, steps: usize)
+        requires few { steps < 2 ^ 64 - 1 }
+        requires within { All (IsWithin steps) self.old.list.items }
+        requires apart { AreApart self.old.list.items }
+        ensures tallies { self.new.list.items
+            ≡ map (ran_tally stretch.pid stretch.time stretch.cost) self.old.list.items }
+        ensures room { (vec_len self.new.list ≡ vec_len self.old.list)
+            × (vec_capacity self.new.list ≡ vec_capacity self.old.list) }
+    {
+        if let Some(index) = self.search(stretch.pid) {
             add_run(&mut self.list[index], stretch);
         }
     }
@@ -94,27 +114,37 @@ impl RowTallies {
         requires apart { AreApart self.old.list.items }
         ensures { self.new.list.items ≡ map (picked_tally pid) self.old.list.items }
     {
-        if let Some(index) = self.index_near(expected, pid) {
+        if self.stands_at(expected, pid) {
+            pick(&mut self.list[expected]);
+        } else {
+            self.add_pick_by_search(pid, steps);
+        }
+    }
+
+    /// The same, where the tally is searched for.
+    #[cold]
+    #[inline(never)]
+    fn add_pick_by_search(&mut self, pid: u32, steps: usize)
+        requires few { steps < 2 ^ 64 - 1 }
+        requires within { All (λ tally. tally.picks ≤ steps) self.old.list.items }
+        requires apart { AreApart self.old.list.items }
+        ensures { self.new.list.items ≡ map (picked_tally pid) self.old.list.items }
+    {
+        if let Some(index) = self.search(pid) {
             pick(&mut self.list[index]);
         }
     }
 
-    /// Where the tally of the pid is, if it has one. It is expected at an index, and searched for only where it isn't
-    /// there.
+    /// Whether the tally at an index is that of the pid.
     #[inline(always)]
-    fn index_near(&self, expected: usize, pid: u32) -> Option<usize>
-        ensures found { (index : ℕ) → result ≡ Some index → (index < length self.now.list.items)
+    fn stands_at(&self, index: usize, pid: u32) -> bool
+        ensures { result ≡ true → (index < length self.now.list.items)
             × ((d : TallyOf) → (get_or self.now.list.items index d).pid ≡ pid) }
-        ensures none { result ≡ None → All (λ tally. tally.pid ≢ pid) self.now.list.items }
     {
-        if expected < self.list.len() && self.list[expected].pid == pid {
-            return Some(expected);
-        }
-        self.search(pid)
+        index < self.list.len() && self.list[index].pid == pid
     }
 
-    /// The same, one after another.
-    #[inline(never)]
+    /// Where the tally of the pid is, if it has one, by a look at one after another.
     fn search(&self, pid: u32) -> Option<usize>
         ensures found { (index : ℕ) → result ≡ Some index → (index < length self.now.list.items)
             × ((d : TallyOf) → (get_or self.now.list.items index d).pid ≡ pid) }

@@ -4,6 +4,7 @@ ghost use Rattle.replay_model.specs.declared.page.Tally.{Tally as TallyOf};
 ghost use Rattle.queue_replay.specs.Indices.{AreApart, AreOwn, AreOwn-prop};
 
 use crate::counting::new_tally;
+use crate::lists::Tallies;
 use cfs_model::Memory;
 use pid_table::PidTable;
 use replay_model::Tally;
@@ -47,10 +48,11 @@ impl TallyBook {
     }
 
     /// The tallies, in the order in which their pids were named.
-    pub fn tallies(&self) -> &[Tally]
-        ensures { result.now ≡ self.now.table.rows }
+    pub fn into_list(self) -> Tallies
+        ensures { result ≡ self.table.rows }
     {
-        self.table.rows()
+        let TallyBook { table } = self;
+        Tallies::from_vec(table.into_rows())
     }
 
     /// Where the tally of the pid is, if it has one.

@@ -17,7 +17,7 @@ use Rattle.cfs_model.specs.Machine.{put}
 use Rattle.runqueue.specs.Tasks.{entity_from, RisesByPid}
 use Rattle.runqueue.proofs.Parts.{its_place, same_tasks}
 use Rattle.runqueue.specs.TaskRows.{with_pid, with_pid_at}
-use Rattle.runqueue.proofs.TaskRows.{no_index}
+use Rattle.pid_table.proofs.Changes.{no_index}
 use Rattle.runqueue.proofs.TaskOf.{stands, stands_pushed, contains, option_cases}
 
 find_none : (p : Task → Bool) (xs : List Task) → All (λ t. p t ≡ false) xs → find p xs ≡ None

@@ -66,6 +66,7 @@ impl WaitingTasks {
     }
 
     /// The same, where it goes to the tree, and all others with it.
+    #[cold]
     #[inline(never)]
     fn insert_in_tree(&mut self, task: WaitingTask) -> Result<(), Memory>
         ensures updates { OnOk result (Updates self.old self.new task true) }
@@ -90,7 +91,7 @@ impl WaitingTasks {
         if self.tree.is_empty() {
             remove_listed(&mut self.list, task);
         } else {
-            self.tree.remove(&task);
+            remove_from_tree(&mut self.tree, task);
         }
     }
 
@@ -193,6 +194,15 @@ fn remove_listed(list: &mut Vec<WaitingTask>, task: WaitingTask)
     if place > 0 && list[place - 1] == task {
         list.remove(place - 1);
     }
+}
+
+/// Takes one out of a tree. Marked as seldom called, so that a list is gone through with no register kept for a call.
+#[cold]
+#[inline(never)]
+fn remove_from_tree(tree: &mut BTreeSet<WaitingTask>, task: WaitingTask)
+    ensures { Updates tree.old tree.new task false }
+{
+    tree.remove(&task);
 }
 
 /// How many of a list that falls aren't less than a task. Whoever is woken comes near the least, so the list is walked

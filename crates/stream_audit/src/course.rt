@@ -442,7 +442,7 @@ impl Course {
                     return Ok(Closing::Joined(Ending::Apart(fault)));
                 }
                 let judge = judge_or_first(alloc, joined, self.aim, judge)?;
-                Ok(Closing::Joined(Ending::Judged(finding_of(alloc, self.aim, judge)?)))
+                Ok(Closing::Joined(Ending::Judged(finding_of(self.aim, judge))))
             }
             // A companion without a start is refused.
             None => unreachable!(),
@@ -491,13 +491,13 @@ fn judge_or_first(
 }
 
 /// What is found of a record of which all events were judged.
-fn finding_of(alloc: Global, aim: Aim, judge: Judge) -> Result<Finding, Memory>
+fn finding_of(aim: Aim, judge: Judge) -> Finding
     requires { (r : RecordView) × IsAllOf aim r judge }
-    ensures { (r : RecordView) → IsAllOf aim r judge → IfOk result (IsFinding aim.least aim.knobs r) }
+    ensures { (r : RecordView) → IsAllOf aim r judge → IsFinding aim.least aim.knobs r result }
 {
     // No sum is too great: the drift is a setting.
     let _drift = aim.knobs().drift();
-    judge.into_progress().finish(alloc, aim)
+    judge.into_progress().finish(aim)
 }
 
 /// Judges the window that waits, where nothing was found so far for which a text is refused.

@@ -134,19 +134,17 @@ impl Progress {
     }
 
     /// What is found of the record whose events these are.
-    pub fn finish(self, alloc: Global, aim: Aim) -> Result<Finding, Memory>
+    pub fn finish(self, aim: Aim) -> Finding
         requires { (r : RecordView) × IsEnd aim r self }
-        ensures { (r : RecordView) → IsEnd aim r self → IfOk result (IsFinding aim.least aim.knobs r) }
+        ensures { (r : RecordView) → IsEnd aim r self → IsFinding aim.least aim.knobs r result }
     {
         first_faults();
         least_settings();
         match self {
-            Progress::Running(audit) => Ok(Finding::Verdict(Verdict::Run(audit.finish(alloc)?))),
-            Progress::Pursuing(audit) => Ok(Finding::Least(audit.finish())),
-            Progress::Told(fault) if aim.is_least() => Ok(Finding::Least(LeastFigures::Fault(
-                fault,
-            ))),
-            Progress::Told(fault) => Ok(Finding::Verdict(Verdict::Fault(fault))),
+            Progress::Running(audit) => Finding::Verdict(Verdict::Run(audit.finish())),
+            Progress::Pursuing(audit) => Finding::Least(audit.finish()),
+            Progress::Told(fault) if aim.is_least() => Finding::Least(LeastFigures::Fault(fault)),
+            Progress::Told(fault) => Finding::Verdict(Verdict::Fault(fault)),
         }
     }
 }

@@ -12,6 +12,7 @@ mod LargestNeeds
 mod LeastFaults
 mod LeastFound
 mod Living
+mod Lives
 mod Naming
 mod OneAnswer
 mod Owned

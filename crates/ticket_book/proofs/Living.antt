@@ -1,10 +1,8 @@
--- A set of pids that takes one in or out, as a function of pids: as the roll puts one.
+-- Who is alive as a function of pids, once one has begun or ended: as the roll puts one.
 use Rattle.std.proofs.Common.{◌≡◌, ◌≢◌, ℕ, zero, suc, nat_eq, Bool, true, false, cond, Option, Some, None, is_some}
 use Rattle.std.proofs.Common.{inl, inr, List, [], ◌∷◌, ◌++◌, refl, sym, ap, ◌∙◌, arith}
 use Rattle.std.specs.Option.{option_or}
-use Rattle.std.specs.Ordering.{nat_cmp, is_eq}
 use Rattle.std.proofs.lemmas.Bool.{eq-eqb, ne_eqb}
-use Rattle.std.proofs.lemmas.Bool.Decides.{nat_tests}
 use Rattle.std.proofs.lemmas.List.Folds.{find-append}
 use Rattle.cfs_model.specs.Lives.{begun_by, ended_by}
 use Rattle.cfs_model.specs.Machine.{put}
@@ -16,19 +14,12 @@ use Rattle.cfs_model.specs.declared.act.Act.TheVariants.{Born, Shift, Switch, Wa
 use Rattle.cfs_model.specs.declared.act.Way.TheVariants.{Ends, Sleeps, Stays}
 use Rattle.cfs_model.specs.declared.task.Task.{Task}
 
-is_eq_same : (k : ℕ) → is_eq (nat_cmp k k) ≡ true
-is_eq_same k = grind (arith, nat_tests)
-
-is_eq_other : (k q : ℕ) → q ≢ k → is_eq (nat_cmp k q) ≡ false
-is_eq_other k q ne = grind (arith, nat_tests)
-
--- what a set says after one pid was taken in or out
-pub one_put : (before after : ℕ → Bool) (key : ℕ) (b : Bool)
-    → ((q : ℕ) → after q ≡ cond (is_eq (nat_cmp key q)) b (before q)) → (q : ℕ) → after q ≡ put before key b q
-one_put before after key b h q = elim (same_or_not q key) [
-  | inl same ↦ ap after same ∙ h key ∙ ap (λ x. cond x b (before key)) (is_eq_same key) ∙ sym (put-same before key b)
-      ∙ ap (put before key b) (sym same)
-  | inr ne ↦ h q ∙ ap (λ x. cond x b (before q)) (is_eq_other key q ne) ∙ sym (put-other before key b q ne)
+-- what is said of one pid alone, as the roll puts it
+pub by_put : (before after : ℕ → Bool) (pid : ℕ) (b : Bool) → after pid ≡ b
+    → ((q : ℕ) → q ≢ pid → after q ≡ before q) → (q : ℕ) → after q ≡ put before pid b q
+by_put before after pid b here there q = elim (same_or_not q pid) [
+  | inl same ↦ ap after same ∙ here ∙ sym (put-same before pid b) ∙ ap (put before pid b) (sym same)
+  | inr ne ↦ there q ne ∙ sym (put-other before pid b q ne)
 ]
 
 put_along : (f g : ℕ → Bool) (key : ℕ) (b : Bool) → ((q : ℕ) → f q ≡ g q) → (q : ℕ) → put f key b q ≡ put g key b q
@@ -56,12 +47,11 @@ named_more tasks t q =
     first (Some u) = refl
     first None = refl
 
--- a set of those named by some tasks, with the pid of one more
+-- those named by some tasks, with the pid of one more
 pub one_named : (tasks : List Task) (t : Task) (before after : ℕ → Bool) → ((q : ℕ) → before q ≡ named tasks q)
-    → ((q : ℕ) → after q ≡ cond (is_eq (nat_cmp t.pid q)) true (before q))
-    → (q : ℕ) → after q ≡ named (tasks ++ t ∷ []) q
+    → ((q : ℕ) → after q ≡ put before t.pid true q) → (q : ℕ) → after q ≡ named (tasks ++ t ∷ []) q
 one_named tasks t before after h k q =
-    one_put before after t.pid true k q ∙ put_along before (named tasks) t.pid true h q ∙ sym (named_more tasks t q)
+    k q ∙ put_along before (named tasks) t.pid true h q ∙ sym (named_more tasks t q)
 
 -- the roll with a pid taken in or out, where there is one
 abbrev pub put_any : (ℕ → Bool) → Option ℕ → Bool → ℕ → Bool

@@ -4,14 +4,14 @@ ghost use Rattle.replay_model.specs.Roll.{named, roll_after};
 ghost use Rattle.ticket_book.specs.Alive.{alive_view};
 
 use cfs_model::{Entry, Memory, Task};
+use pid_table::PidTable;
 use std::alloc::Global;
-use std::collections::BTreeSet;
 
 /// Who is alive: the pids that have begun and not ended.
 #[derive(Drop)]
 pub(crate) struct Alive {
-    // In order and not by a hash: the pids come from a file that isn't trusted.
-    pids: BTreeSet<u32>,
+    /// Of each pid that ever began, whether it hasn't ended since.
+    lives: PidTable<bool>,
 }
 
 impl Alive {
@@ -19,18 +19,23 @@ impl Alive {
     pub(crate) fn new(alloc: Global, tasks: &[Task]) -> Result<Alive, Memory>
         ensures { IfOk result (λ alive. (pid : ℕ) → alive_view alive pid ≡ named tasks.now pid) }
     {
-        let mut pids = BTreeSet::new(alloc);
+        let mut alive = Alive {
+            lives: PidTable::new(alloc),
+        };
         for task in tasks {
-            pids.insert(task.pid)?;
+            alive.begin(task.pid)?;
         }
-        Ok(Alive { pids })
+        Ok(alive)
     }
 
     /// Whether the pid is alive.
     pub(crate) fn has(&self, pid: u32) -> bool
         ensures { result ≡ alive_view self.now pid }
     {
-        self.pids.contains(&pid)
+        match self.lives.index_of(pid) {
+            Some(row) => self.lives.rows()[row],
+            None => false,
+        }
     }
 
     /// A birth begins a pid, and a switch away from a task that ends ends it.
@@ -51,13 +56,20 @@ impl Alive {
     fn begin(&mut self, pid: u32) -> Result<(), Memory>
         ensures { OnOk result ((q : ℕ) → alive_view self.new q ≡ put (alive_view self.old) pid true q) }
     {
-        self.pids.insert(pid)?;
+        if let Some(row) = self.lives.index_of(pid) {
+            *self.lives.row_mut(row) = true;
+            return Ok(());
+        }
+        self.lives.make_room()?;
+        self.lives.add(pid, true);
         Ok(())
     }
 
     fn end(&mut self, pid: u32)
         ensures { (q : ℕ) → alive_view self.new q ≡ put (alive_view self.old) pid false q }
     {
-        self.pids.remove(&pid);
+        if let Some(row) = self.lives.index_of(pid) {
+            *self.lives.row_mut(row) = false;
+        }
     }
 }

@@ -38,7 +38,7 @@ pub(crate) fn verdict_on(
             // No sum is too great: no time is above the last, there are no more events than lines, and the drift is a
             // setting.
             let _last = (joined.last_time(), joined.last_line(), knobs.drift());
-            Ok(Verdict::Run(book.summary(alloc, pages)?))
+            Ok(Verdict::Run(book.summary(pages)))
         }
     }
 }

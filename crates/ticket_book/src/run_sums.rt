@@ -11,7 +11,7 @@ use crate::Summary;
 use crate::event_counts::EventCounts;
 use crate::task_sums::add_all;
 use cfs_model::{Act, Entry, Memory, Task};
-use queue_replay::{Paged, Tallies, TallyBook};
+use queue_replay::{Paged, TallyBook};
 use std::alloc::Global;
 
 /// The events so far, counted, and the tasks so far, named, in the order in which they were named or born.
@@ -58,10 +58,10 @@ impl RunSums {
     }
 
     /// The summary, by the tallies of all processors.
-    pub(crate) fn summary<P: Paged>(self, alloc: Global, pages: &[P]) -> Result<Summary, Memory>
+    pub(crate) fn summary<P: Paged>(self, pages: &[P]) -> Summary
         requires { All (λ sum. FitsTally (with_tallies (tallies_below (view_at (map P.page pages.now))
             (length pages.now)) sum)) self.tallies.table.rows }
-        ensures { IfOk result (λ summary. summary_view summary ≡ record {
+        ensures { summary_view result ≡ record {
           events = self.events;
           switches = self.counts.switches;
           migrations = self.counts.migrations;
@@ -69,7 +69,7 @@ impl RunSums {
           deaths = self.counts.deaths;
           tallies = map (with_tallies (tallies_below (view_at (map P.page pages.now)) (length pages.now)))
               self.tallies.table.rows;
-        }) }
+        } }
     {
         let RunSums {
             events,
@@ -78,15 +78,14 @@ impl RunSums {
             ..
         } = self;
         add_pages(pages, &mut tallies);
-        let list = tallies.tallies().to_vec(alloc)?;
-        Ok(Summary {
+        Summary {
             events,
             switches: counts.switches,
             migrations: counts.migrations,
             births: counts.births,
             deaths: counts.deaths,
-            tallies: Tallies::from_vec(list),
-        })
+            tallies: tallies.into_list(),
+        }
     }
 }
 

@@ -81,14 +81,14 @@ impl WindowBook {
     }
 
     /// The summary of the events so far, by the tallies of all processors.
-    pub fn summary<P: Paged>(self, alloc: Global, pages: &[P]) -> Result<Summary, Memory>
+    pub fn summary<P: Paged>(self, pages: &[P]) -> Summary
         requires { (tasks : List TaskOf) × (so_far : List Claimed) × IsBookOf tasks so_far self
             × All (λ pid. FitsTally (total_of (tallies_below (view_at (map P.page pages.now)) (length pages.now)) pid))
             (tasks_of_run tasks so_far) }
         ensures { (tasks : List TaskOf) (so_far : List Claimed) → IsBookOf tasks so_far self
-            → IfOk result (λ summary. summary_view summary ≡ summary_by
-            (tallies_below (view_at (map P.page pages.now)) (length pages.now)) tasks so_far) }
+            → summary_view result ≡ summary_by (tallies_below (view_at (map P.page pages.now)) (length pages.now))
+            tasks so_far }
     {
-        self.sums.summary(alloc, pages)
+        self.sums.summary(pages)
     }
 }

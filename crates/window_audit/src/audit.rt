@@ -80,15 +80,15 @@ impl WindowAudit {
     }
 
     /// The summary of the run that all events are, where nothing was told of any window.
-    pub fn finish(self, alloc: Global) -> Result<Summary, Memory>
+    pub fn finish(self) -> Summary
         requires { (of : Beginning) × (events : List Claimed) × IsWhole of events self }
         ensures { (of : Beginning) (events : List Claimed) → IsWhole of events self
-            → IfOk result (λ summary. IsSummaryOf of events (summary_view summary)) }
+            → IsSummaryOf of events (summary_view result) }
     {
         window_ends();
         tallying();
         let WindowAudit { members, book } = self;
-        book.summary(alloc, &members)
+        book.summary(&members)
     }
 }
 

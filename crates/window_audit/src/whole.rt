@@ -37,5 +37,5 @@ pub fn audit_in_windows<R: Threads + Sync>(
         }
         from += window.events().len();
     }
-    Ok(Verdict::Run(audit.finish(alloc)?))
+    Ok(Verdict::Run(audit.finish()))
 }

@@ -1,7 +1,8 @@
 use Rattle.std.proofs.Common.{Some, length, subst, sym, ap, ◌∙◌}
 use Rattle.pid_table.specs.Rows.{index_in}
 use Rattle.runqueue.specs.TaskRows.{KeepsRows, with_pid_at}
-use Rattle.runqueue.proofs.TaskRows.{index_new, keeps_more, keeps_same, row_added}
+use Rattle.pid_table.proofs.Changes.{index_new}
+use Rattle.runqueue.proofs.TaskRows.{keeps_more, keeps_same, row_added}
 use Rattle.runqueue.proofs.task_rows.put.Goals as goal
 
 pub returns-in-Some-clause-kept : goal.returns-in-Some-clause-kept

@@ -1,7 +1,8 @@
 use Rattle.std.proofs.Common.{ap, get_or, sym, ◌∙◌}
 use Rattle.std.proofs.lemmas.Option.{slice_get-get_or}
 use Rattle.runqueue.specs.TaskRows.{task_of_row}
-use Rattle.runqueue.proofs.TaskRows.{at_row, nothing_written, row_within, without_row}
+use Rattle.pid_table.proofs.Changes.{row_within}
+use Rattle.runqueue.proofs.TaskRows.{at_row, nothing_written, without_row}
 use Rattle.runqueue.proofs.task_rows.take_out.Goals as goal
 
 pub returns-in-Some-clause-value : goal.returns-in-Some-clause-value

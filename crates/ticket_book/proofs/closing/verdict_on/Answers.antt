@@ -1,11 +1,8 @@
 use Rattle.std.proofs.Common.{◌≡◌, length, subst, ◌≤◌}
-use Rattle.std.specs.Result.{IfOk}
 use Rattle.cfs_model.specs.Limits.{greatest_setting}
 use Rattle.replay_model.specs.Summary.{tasks_of_run}
 use Rattle.sched_record.specs.Record.{record_view}
 use Rattle.ticket_book.specs.SaidEvents.{events_of}
-use Rattle.tally_laws.specs.Totals.{summary_by, tallies_below}
-use Rattle.ticket_book.specs.SummaryView.{summary_view}
 use Rattle.ticket_book.specs.Told.{Tell, pages_of, view_at}
 use Rattle.ticket_book.proofs.Verdicts.{fault_is_verdict, run_of, sums_fit, tickets_rise}
 use Rattle.ticket_book.proofs.closing.verdict_on.Goals as goal
@@ -42,15 +39,13 @@ summary-requires c =
           (events_of r)),
     )
 
-pub returns-in_ok-summary-in-None : goal.returns-in_ok-summary-in-None
-returns-in_ok-summary-in-None c =
+pub returns-in-None : goal.returns-in-None
+returns-in-None c =
     let r = record_view c.args.joined.now in
     let pages = c.args.pages.now in
     let order = c.args.joined.now.in_order in
     let nothing = subst (Tell (view_at (pages_of pages)) (length pages) r.tasks (events_of r)) c.in-None.is
     c.in_ok-book.ensures.told in
-    let view = summary_by (tallies_below (view_at (pages_of pages)) (length pages)) r.tasks (events_of r) in
     run_of c.args.knobs r pages c.requires order
-    nothing c.tallying.ensures.summary c.in_ok-summary-in-None.field-0
-    (subst (λ made. IfOk made (λ summary. summary_view summary ≡ view)) c.in_ok-summary-in-None.was
-    (c.summary.ensures r.tasks (events_of r) (c.in_ok-book.ensures.passed c.in-None.is)))
+    nothing c.tallying.ensures.summary c.summary.result
+    (c.summary.ensures r.tasks (events_of r) (c.in_ok-book.ensures.passed c.in-None.is))

@@ -72,7 +72,7 @@ finish-requires g c =
 pub returns : goal.returns
 returns g c =
     let r = record_view c.args.joined.now in
-    c.in_ok-finish.ensures (beginning_of c.args.knobs r) (events_of r)
+    c.finish.ensures (beginning_of c.args.knobs r) (events_of r)
     (whole_of c.args.knobs r c.args.joined.now.in_order c.loop-from.from c.last_time.result c.last_line.result
     c.loop-from.audit
     (let n = ap length c.events-count.ensures in let t = c.loop-from-test.false in omega (arith, n, t))

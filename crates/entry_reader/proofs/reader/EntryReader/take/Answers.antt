@@ -1,5 +1,5 @@
 -- Behind lines of which none is bad, one more is passed over, adds its event, or is the first bad one.
-use Rattle.std.proofs.Common.{◌+◌, ◌++◌, ◌∷◌, [], sym, subst}
+use Rattle.std.proofs.Common.{◌+◌, ◌++◌, ◌∷◌, [], ap, sym, subst, ◌∙◌}
 use Rattle.sched_record.specs.ReadLines.{AreKept, AreRead}
 use Rattle.sched_record.specs.Said.{LineSays}
 use Rattle.sched_record.proofs.Lines.{turns_back, refuses}
@@ -22,15 +22,16 @@ returns-then-time-self-clause-read c lines line given says read =
     (as_told (c.args.self.now.count + 1) line c.in-Ok-Some.field-0-is
     (subst (LineSays (c.args.self.now.count + 1) line) c.in-Ok-Some.is says)) c.if-time-self.true
 
-pub returns-in_ok-push-in-Ok-Some-clause-read : goal.returns-in_ok-push-in-Ok-Some-clause-read
-returns-in_ok-push-in-Ok-Some-clause-read c lines line given says read =
+pub returns-in_ok-reserve-in-Ok-Some-clause-read : goal.returns-in_ok-reserve-in-Ok-Some-clause-read
+returns-in_ok-reserve-in-Ok-Some-clause-read c lines line given says read =
     let before = c.args.self.now in
     let is = where_none _ before.bad c.requires.good read in
     let more = on_event lines before.count before.last given before.entries.items line c.in-Ok-Some.entry
     (record { read = is.read; kept = is.kept })
     (as_told (before.count + 1) line c.in-Ok-Some.field-0-is
     (subst (LineSays (before.count + 1) line) c.in-Ok-Some.is says)) c.if-time-self.false in
-    let pushed = sym c.in_ok-push-in-Ok-Some.ensures.items in
+    let pushed = sym (c.push_reserved.ensures.items
+    ∙ ap (λ es. es ++ c.in-Ok-Some.entry ∷ []) c.in_ok-reserve-in-Ok-Some.ensures.items) in
     as_none _ before.bad c.requires.good (record {
       read = subst (λ es. AreRead (lines ++ line ∷ []) (before.count + 1) c.in-Ok-Some.entry.time (given ++ es)) pushed
           more.read;

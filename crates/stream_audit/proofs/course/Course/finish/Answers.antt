@@ -127,8 +127,8 @@ returns c = λ text events w.
             (c.finish-apart.ensures.answered of events w.handed
             (last_as of events w.handed joined draft.claims _ draft.nices _ draft.charges _ c.claims.ensures
             c.nices.ensures c.charges.ensures end.last)),
-        subst (λ (a : AimView). IsFinding a.least a.knobs (joined_record events of) c.in_ok-finding_of-in-Some.field-0)
+        subst (λ (a : AimView). IsFinding a.least a.knobs (joined_record events of) c.finding_of.result)
             b.aim
-            (c.in_ok-finding_of-in-Some.ensures (joined_record events of) all),
+            (c.finding_of.ensures (joined_record events of) all),
       ),
     )

@@ -13,11 +13,11 @@ finish-requires c =
       whole c.args.aim end.0 c.args.self c.in-Running.audit c.in-Running.is end.1,
     )
 
-pub returns-in_ok-finish-in-Running : goal.returns-in_ok-finish-in-Running
-returns-in_ok-finish-in-Running c = λ r end.
+pub returns-in-Running : goal.returns-in-Running
+returns-in-Running c = λ r end.
     let aim = c.args.aim in
     let audit = c.in-Running.audit in
     let is = c.in-Running.is in
-    verdict_found aim r (Run c.in_ok-finish-in-Running.field-0) (verdict_asked aim r c.args.self audit is end)
-    (c.in_ok-finish-in-Running.ensures (beginning_of (audited_at aim) r) (events_of r)
+    verdict_found aim r (Run c.finish.result) (verdict_asked aim r c.args.self audit is end)
+    (c.finish.ensures (beginning_of (audited_at aim) r) (events_of r)
     (whole aim r c.args.self audit is end))

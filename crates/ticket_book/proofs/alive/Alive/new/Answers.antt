@@ -3,7 +3,11 @@ use Rattle.std.proofs.lemmas.List.{take_more}
 use Rattle.replay_model.specs.Roll.{named}
 use Rattle.ticket_book.specs.Alive.{alive_view}
 use Rattle.ticket_book.proofs.Living.{one_named}
+use Rattle.ticket_book.proofs.Lives.{nobody}
 use Rattle.ticket_book.proofs.alive.Alive.new.Goals as goal
+
+pub loop-task-init : goal.loop-task-init
+loop-task-init c = λ q. nobody c.new.result c.new.ensures.pids q
 
 pub loop-task-preserved : goal.loop-task-preserved
 loop-task-preserved c = λ q.
@@ -12,6 +16,5 @@ loop-task-preserved c = λ q.
     let t = c.task-item.result in
     let more : take (i + 1) tasks ≡ take i tasks ++ t ∷ [] =
     take_more tasks i t c.loop-task-test.true ∙ ap (λ u. take i tasks ++ u ∷ []) (sym c.task-item.is) in
-    one_named (take i tasks) t (alive_view (record { pids = c.loop-task.pids }))
-    (alive_view (record { pids = c.insert.new.self }))
-    c.loop-task.invariant c.in_ok-insert.ensures.updates.0 q ∙ ap (λ ts. named ts q) (sym more)
+    one_named (take i tasks) t (alive_view c.loop-task.alive) (alive_view c.begin.new.self)
+    c.loop-task.invariant c.in_ok-begin.ensures q ∙ ap (λ ts. named ts q) (sym more)

@@ -1,5 +1,4 @@
 use Rattle.std.proofs.Common.{All, length, map, refl, sym, subst}
-use Rattle.std.proofs.lemmas.Result.{IfOk-weaker}
 use Rattle.replay_model.specs.Summary.{tasks_of_run}
 use Rattle.tally_laws.specs.Totals.{tallies_below}
 use Rattle.cfs_model.specs.Claimed.{Claimed}
@@ -21,6 +20,5 @@ summary-requires g c =
 pub returns : goal.returns
 returns g c = λ tasks so_far of.
     let tallies = tallies_below (view_at (map g.P.Paged.page c.args.pages.now)) (length c.args.pages.now) in
-    IfOk-weaker c.summary.result _ _
-    (λ summary is. summary_is_of tasks so_far (map (λ (s : Claimed). s.entry) so_far) refl c.args.self.sums of.sums
-    tallies _ is) c.summary.ensures
+    summary_is_of tasks so_far (map (λ (s : Claimed). s.entry) so_far) refl c.args.self.sums of.sums tallies _
+    c.summary.ensures

@@ -1,13 +1,10 @@
-use Rattle.std.proofs.Common.{All, length, sym, subst}
-use Rattle.std.proofs.lemmas.Result.{IfOk-weaker}
+use Rattle.std.proofs.Common.{All, List, length, sym, subst}
 use Rattle.replay_model.specs.Summary.{tasks_of_run}
 use Rattle.tally_laws.specs.Totals.{summary_by, tallies_below, total_of}
-use Rattle.ticket_book.specs.SummaryView.{summary_view}
 use Rattle.ticket_book.specs.Tallying.{FitsTally}
 use Rattle.ticket_book.specs.Told.{view_at}
 use Rattle.window_audit.specs.Audit.{IsSummaryOf}
 use Rattle.window_audit.specs.declared.member.Member.{Member}
-use Rattle.std.proofs.Common.{List, ◌≡◌}
 use Rattle.window_audit.proofs.Ending.{summed, sums_fit}
 use Rattle.window_audit.proofs.Passing.{pages_of}
 use Rattle.window_audit.proofs.audit.WindowAudit.finish.Goals as goal
@@ -28,12 +25,7 @@ summary-requires c =
 
 pub returns : goal.returns
 returns c = λ of events whole.
-    IfOk-weaker c.summary.result
-    (λ summary. summary_view summary ≡ summary_by (tallies_below (view_at (pages_of c.deref.result.now))
-    (length c.deref.result.now)) of.tasks events)
-    (λ summary. IsSummaryOf of events (summary_view summary))
-    (λ summary is. subst (IsSummaryOf of events) (sym is)
+    subst (IsSummaryOf of events) (sym (c.summary.ensures of.tasks events whole.audit_is.book))
     (subst (λ (ms : List Member). IsSummaryOf of events (summary_by (tallies_below (view_at (pages_of ms)) (length ms))
     of.tasks events)) (sym c.deref.ensures.value)
-    (summed of events c.args.self whole c.window_ends.ensures.summary c.tallying.ensures.bounded)))
-    (c.summary.ensures of.tasks events whole.audit_is.book)
+    (summed of events c.args.self whole c.window_ends.ensures.summary c.tallying.ensures.bounded))

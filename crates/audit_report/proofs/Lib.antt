@@ -2,3 +2,5 @@ mod Taking
 mod Written
 mod Besides
 mod NoFaults
+mod Piecewise
+mod Rooms

@@ -6,7 +6,7 @@ use crate::verdict::push_counts;
 use crate::{Finding, Judgement, Streamed};
 use audit_input::{Cause, Source};
 use cfs_model::{Knobs, Memory};
-use replay_model::FirstFault;
+use replay_model::{FirstFault, Tally};
 use sched_record::Record;
 use std::alloc::{AllocError, Global};
 use ticket_book::Verdict;
@@ -74,8 +74,20 @@ impl Judgement for Counted {
 }
 
 impl Streamed for Counted {
+    ghost use Rattle.audit_report.specs.Report.{counted_lines};
+
+    ghost front = { λ _. counted_lines };
+
     fn of_stream(finding: Finding) -> Counted {
         let verdict = Verdict::of_stream(finding);
         Counted { verdict }
+    }
+
+    fn push_front(&self, text: &mut String, tells_charges: bool) -> Result<(), AllocError> {
+        self.push(text, tells_charges)
+    }
+
+    fn tallies(&self) -> &[Tally] {
+        &[]
     }
 }

@@ -7,7 +7,7 @@ use crate::{Finding, Judgement, Streamed};
 use audit_input::{Cause, Source};
 use cfs_model::{Knobs, Memory, Setting};
 use least_places::{LeastFigures, Place, Places};
-use replay_model::FirstFault;
+use replay_model::{FirstFault, Tally};
 use sched_record::Record;
 use std::alloc::{AllocError, Global};
 
@@ -94,11 +94,23 @@ impl Judgement for LeastFigures {
 }
 
 impl Streamed for LeastFigures {
+    ghost use Rattle.audit_report.specs.Report.{least_lines};
+
+    ghost front = { least_lines };
+
     fn of_stream(finding: Finding) -> LeastFigures {
         match finding {
             Finding::Least(figures) => figures,
             Finding::Verdict(_) => unreachable!(),
         }
+    }
+
+    fn push_front(&self, text: &mut String, tells_charges: bool) -> Result<(), AllocError> {
+        self.push(text, tells_charges)
+    }
+
+    fn tallies(&self) -> &[Tally] {
+        &[]
     }
 }
 

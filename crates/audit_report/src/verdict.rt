@@ -1,5 +1,5 @@
 //! A verdict, as an audit of two texts tells it.
-ghost use Rattle.std.specs.Prelude.{◌≡◌, ◌++◌, OnOk, string_bytes};
+ghost use Rattle.std.specs.Prelude.{◌≡◌, ◌+◌, ◌≤◌, ◌++◌, IsOk, OnOk, length, string_bytes, string_capacity, string_len};
 ghost use Rattle.ticket_book.specs.SummaryView.{summary_view};
 ghost use Rattle.audit_report.specs.Report.{count_lines, run_lines, tally_line, tally_lines};
 
@@ -15,6 +15,9 @@ use ticket_book::{Summary, Verdict};
 
 /// No more bytes than so many a tally's line has, mostly.
 const TALLY_BYTES: usize = 64;
+
+/// No more bytes than so many a tally's line ever has.
+pub(crate) const MOST_TALLY_BYTES: usize = 160;
 
 // Writes lines at the end of a text, each with its line feed.
 macro_rules! lines {
@@ -84,10 +87,28 @@ impl Judgement for Verdict {
 }
 
 impl Streamed for Verdict {
+    ghost use Rattle.audit_report.specs.Report.{counts_of};
+
+    ghost front = { λ _. counts_of };
+
     fn of_stream(finding: Finding) -> Verdict {
         match finding {
             Finding::Verdict(verdict) => verdict,
             Finding::Least(_) => unreachable!(),
+        }
+    }
+
+    fn push_front(&self, text: &mut String, _tells_charges: bool) -> Result<(), AllocError> {
+        match self {
+            Verdict::Run(summary) => push_counts(text, summary),
+            Verdict::Fault(fault) => push_fault(text, fault),
+        }
+    }
+
+    fn tallies(&self) -> &[Tally] {
+        match self {
+            Verdict::Run(summary) => summary.tallies.as_slice(),
+            Verdict::Fault(_) => &[],
         }
     }
 }
@@ -132,14 +153,56 @@ fn push_tallies(text: &mut String, tallies: &[Tally]) -> Result<(), AllocError>
     Ok(())
 }
 
+/// Writes one task's tally where there is room for the longest one. Takes no memory.
+pub(crate) fn put_tally(text: &mut String, tally: &Tally, digits: &mut Buffer)
+    requires { string_len text.old + 160 ≤ string_capacity text.old }
+    ensures bytes { string_bytes text.new ≡ string_bytes text.old ++ tally_line tally.now }
+    ensures room { string_capacity text.old ≤ string_capacity text.new }
+{
+    match push_tally(text, tally, digits) {
+        Ok(()) => {}
+        Err(_) => unreachable!(),
+    }
+}
+
 /// Writes one task's tally.
 fn push_tally(text: &mut String, tally: &Tally, digits: &mut Buffer) -> Result<(), AllocError>
-    ensures { OnOk result (string_bytes text.new ≡ string_bytes text.old ++ tally_line tally.now) }
+    ensures bytes { OnOk result (string_bytes text.new ≡ string_bytes text.old ++ tally_line tally.now) }
+    ensures room { string_capacity text.old ≤ string_capacity text.new }
+    ensures fits { string_len text.old + 160 ≤ string_capacity text.old → IsOk result }
 {
-    push_number(text, "task ", tally.pid, digits)?;
-    push_number(text, " ran ", tally.ran, digits)?;
-    push_number(text, " charged ", tally.charged, digits)?;
-    push_number(text, " picks ", tally.picks, digits)?;
+    let Tally {
+        ran,
+        charged,
+        picks,
+        pid,
+    } = *tally;
+    push_line(text, pid, ran, charged, picks, digits)
+}
+
+/// Writes the line of a tally, by what it has.
+#[inline(always)]
+fn push_line(
+    text: &mut String,
+    pid: u32,
+    ran: u128,
+    charged: u128,
+    picks: u64,
+    digits: &mut Buffer,
+) -> Result<(), AllocError>
+    ensures bytes { OnOk result (string_bytes text.new ≡ string_bytes text.old ++ tally_line (record {
+      ran = ran;
+      charged = charged;
+      picks = picks;
+      pid = pid;
+    })) }
+    ensures room { string_capacity text.old ≤ string_capacity text.new }
+    ensures fits { string_len text.old + 160 ≤ string_capacity text.old → IsOk result }
+{
+    push_number(text, "task ", pid, digits)?;
+    push_number(text, " ran ", ran, digits)?;
+    push_number(text, " charged ", charged, digits)?;
+    push_number(text, " picks ", picks, digits)?;
     text.push_str("\n")
 }
 
@@ -151,7 +214,12 @@ fn push_number<I: Integer>(
     number: I,
     digits: &mut Buffer,
 ) -> Result<(), AllocError>
-    ensures { OnOk result (string_bytes text.new ≡ string_bytes text.old ++ (words.now ++ I.text number)) }
+    ensures bytes { OnOk result (string_bytes text.new ≡ string_bytes text.old ++ (words.now ++ I.text number)) }
+    ensures len { OnOk result
+        (string_len text.new ≡ string_len text.old + (length words.now + length (I.text number))) }
+    ensures room { string_capacity text.old ≤ string_capacity text.new }
+    ensures fits { string_len text.old + (length words.now + length (I.text number)) ≤ string_capacity text.old
+        → IsOk result }
 {
     text.push_str(words)?;
     text.push_str(digits.format(number))

@@ -37,7 +37,7 @@ pub fn write_report<J: Judgement, S: Sink>(
 }
 
 /// Writes the bytes, in as many writes as it takes. It ends at the first that fails or takes no byte.
-fn write_all<S: Sink>(out: &mut S, bytes: &[u8]) -> Result<(), Fault>
+pub(crate) fn write_all<S: Sink>(out: &mut S, bytes: &[u8]) -> Result<(), Fault>
     ensures whole { OnOk result (Appends (S.taken out.old) (S.taken out.new) bytes.now) }
     ensures heard { OnOk result (S.has_failed out.new ≡ S.has_failed out.old) }
     ensures fault { IfErr result (λ fault. fault ≡ Fault.Write) }

@@ -28,4 +28,5 @@ pub mod Sorting
 pub mod Starts
 pub mod Summing
 pub mod Taking
-pub mod UsualLines
+pub mod MarkedFields
+mod UsualLines

@@ -1,9 +1,11 @@
-ghost use Rattle.std.specs.Prelude.{◌≡◌};
+ghost use Rattle.std.specs.Prelude.{◌≡◌, IfSome, Some};
+ghost use Rattle.text_parts.specs.Marks.{AreMarks};
 ghost use Rattle.text_parts.specs.Reading.{Gives};
 ghost use Rattle.companion_file.specs.ShapeReading.{number_field, number_whole, integer_at, integer_field};
 ghost use Rattle.companion_file.specs.ShapeReading.{integer_whole, place_field};
 
 use cfs_model::{GREATEST_RUNTIME, Place};
+use text_parts::marks::{long_numeral, marks_behind, short_numeral};
 use text_parts::numerals::numeral_at;
 use text_parts::packed::long_numeral_at;
 use text_parts::pieces::after_front;
@@ -20,6 +22,21 @@ pub(crate) fn number_field(text: &[u8]) -> Option<(u64, &[u8])>
     let (number, rest) = long_numeral_at(text)?;
     let rest = after_front(rest, b" ")?;
     Some((number, rest))
+}
+
+/// The same of a short number, by the marks of the text; with the marks of what follows.
+#[inline(always)]
+pub(crate) fn marked_field(text: &[u8], marks: u64) -> Option<(u64, &[u8], u64)>
+    requires { AreMarks text.now marks }
+    ensures field { IfSome result (λ x. number_field text.now ≡ Some (x.0, x.1.now)) }
+    ensures marks { IfSome result (λ x. AreMarks x.1.now x.2) }
+{
+    let (digits, number) = short_numeral(text, marks)?;
+    if text[digits] != b' ' {
+        return None;
+    }
+    let behind = digits + 1;
+    Some((number, &text[behind..], marks_behind(text, marks, behind)))
 }
 
 /// A number with nothing behind it.
@@ -48,6 +65,16 @@ pub(crate) fn integer(text: &[u8]) -> Option<(i64, &[u8])>
             Some((-(number.min(BEYOND) as i64), rest))
         }
     }
+}
+
+/// The same of one with no sign, by the marks of the text.
+#[inline(always)]
+pub(crate) fn marked_integer(text: &[u8], marks: u64) -> Option<(i64, &[u8])>
+    requires { AreMarks text.now marks }
+    ensures { IfSome result (λ x. integer_at text.now ≡ Some (x.0, x.1.now)) }
+{
+    let (digits, number) = long_numeral(text, marks)?;
+    Some((number as i64, &text[digits..]))
 }
 
 /// An integer and the space behind it.

@@ -4,8 +4,9 @@
 ghost use Rattle.std.specs.Prelude.{◌≡◌, codes, IfSome};
 ghost use Rattle.companion_file.specs.Usual.{HasFields, HasLine};
 
-use crate::fields::{integer, number_field};
+use crate::fields::{integer, marked_field, marked_integer, number_field};
 use text_parts::lines::line_end;
+use text_parts::marks::{MARKED, marks_of};
 use text_parts::pieces::after_front;
 
 /// What such a line says, its numbers within their limits or not, and what follows it.
@@ -28,9 +29,36 @@ pub(crate) fn usual_charge(text: &[u8]) -> Option<UsualLine<'_>>
     usual_fields(after_front(text, b"charge ")?)
 }
 
-/// The same behind the word of either line.
+/// The same behind the word of either line. Where its numbers end is told by one look, mostly.
 #[inline(always)]
 pub(crate) fn usual_fields(text: &[u8]) -> Option<UsualLine<'_>>
+    ensures { IfSome result (λ said. HasFields text.now said.line said.pid said.v said.rest.now) }
+{
+    match marked_fields(text) {
+        Some(said) => Some(said),
+        None => any_fields(text),
+    }
+}
+
+/// The same where the numbers have no sign, and few digits.
+#[inline(always)]
+fn marked_fields(text: &[u8]) -> Option<UsualLine<'_>>
+    ensures { IfSome result (λ said. HasFields text.now said.line said.pid said.v said.rest.now) }
+{
+    if text.len() < MARKED {
+        return None;
+    }
+    let marks = marks_of(text);
+    let (line, after_line, marks) = marked_field(text, marks)?;
+    let (pid, after_pid, marks) = marked_field(after_line, marks)?;
+    let (v, after_v) = marked_integer(after_pid, marks)?;
+    let rest = line_end(after_v)?;
+    Some(UsualLine { line, pid, v, rest })
+}
+
+/// The same of all numbers, away from the reader of those.
+#[inline(never)]
+fn any_fields(text: &[u8]) -> Option<UsualLine<'_>>
     ensures { IfSome result (λ said. HasFields text.now said.line said.pid said.v said.rest.now) }
 {
     let (line, after_line) = number_field(text)?;

@@ -1,10 +1,12 @@
 -- What is remembered of a line up to its seconds, both ways: bytes that were read so stand for their seconds in front
 -- of any text, and the bytes before what follows the seconds are read so.
-use Rattle.std.proofs.Common.{◌≡◌, ℕ, ◌<◌, ◌≤◌, ◌-◌, ◌%◌, List, [], ◌∷◌, ◌++◌, length, take, get_or, min}
-use Rattle.std.proofs.Common.{Option, Some, None, refl, sym, ap, subst, ◌∙◌, inl, inr, arith, append_assoc, bit_and}
+use Rattle.std.proofs.Common.{◌≡◌, ℕ, ◌<◌, ◌≤◌, ◌-◌, ◌%◌, List, [], ◌∷◌, ◌++◌, length, take, drop, get_or}
+use Rattle.std.proofs.Common.{min, Option, Some, None, refl, sym, ap, subst, ◌∙◌, inl, inr, arith, append_assoc}
+use Rattle.std.proofs.Common.{bit_and}
 use Rattle.std.specs.List.{list_any, take_while}
 use Rattle.std.proofs.lemmas.Bool.{or_parts}
 use Rattle.std.proofs.lemmas.List.{append-nil, ext_get_or, get_or-take, length-take-le, length-append, take_at}
+use Rattle.std.proofs.lemmas.List.{take-append-drop, take_rest}
 use Rattle.std.proofs.lemmas.Nat.{and_mask}
 use Rattle.std.proofs.lemmas.List.Folds.{list_any-append}
 use Rattle.std.proofs.lemmas.Option.{same_Some}
@@ -97,6 +99,16 @@ seconds_stand front text rest seconds parts unbroken e =
     (run_taken is_space front clock space)
     (flags_from clock stamp (after_flags clock) (flags_behind clock stamp) flags)
     (numeral_taken stamp whole.0 whole.1 numeral) (at_end_taken whole.1 whole.0 seconds e))))
+
+-- so do those that a text begins with, where what follows them is cut off there
+pub clock_stands : (text bytes : List ℕ) (width seconds : ℕ) → take width text ≡ take width bytes
+    → IsUnbroken (take width bytes) → seconds_in (take width bytes) ≡ Some seconds
+    → HasSeconds text seconds (take (length text - width) (drop width text))
+clock_stands text bytes width seconds front unbroken read =
+    let parts : text ≡ take width bytes ++ drop width text =
+    sym (take-append-drop width text) ∙ ap (λ (front : List ℕ). front ++ drop width text) front in
+    subst (HasSeconds text seconds) (sym (take_rest text width))
+    (seconds_stand (take width bytes) text (drop width text) seconds parts unbroken read)
 
 -- a space and a zero
 pub zero_read : seconds_in (32 ∷ 48 ∷ []) ≡ Some 0

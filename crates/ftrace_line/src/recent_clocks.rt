@@ -16,6 +16,10 @@ const REMEMBERED: usize = 8;
 #[derive(Clone, Copy, Debug, Drop)]
 pub struct RecentClocks {
     clocks: [Clock; REMEMBERED],
+    /// How many bytes that of the last line has. The next has mostly as many, and what follows it is read there before
+    /// it is known which it is.
+    width: usize,
+    ghost few: { width ≤ 16 },
 }
 
 impl RecentClocks {
@@ -23,6 +27,7 @@ impl RecentClocks {
     pub fn new() -> RecentClocks {
         RecentClocks {
             clocks: [Clock::zero(); REMEMBERED],
+            width: 0,
         }
     }
 
@@ -34,17 +39,34 @@ impl RecentClocks {
         if text.len() <= WIDTH {
             return seconds_at(text);
         }
+        let width = self.width;
         let place = place_of(text);
         let clock = &self.clocks[place];
         // Before a further digit another clock stands.
-        if clock.stands_before(text) && text[clock.width] == b'.' {
-            return Some((clock.seconds, &text[clock.width..]));
+        if clock.width == width && clock.stands_before(text) && text[width] == b'.' {
+            return Some((clock.seconds, &text[width..]));
+        }
+        self.other_seconds_at(place, text)
+    }
+
+    /// The same where a clock of another width stands there, or none that is remembered.
+    #[inline(never)]
+    fn other_seconds_at<'a>(&mut self, place: usize, text: &'a [u8]) -> Option<(u64, &'a [u8])>
+        requires place { place < 8 }
+        requires long { 16 < length text.now }
+        ensures { IfSome result (λ x. HasSeconds text.now x.0 x.1.now) }
+    {
+        let clock = &self.clocks[place];
+        let width = clock.width;
+        let seconds = clock.seconds;
+        if clock.stands_before(text) && text[width] == b'.' {
+            self.width = width;
+            return Some((seconds, &text[width..]));
         }
         self.remember(place, text)
     }
 
     /// The same where another clock stands there, which is remembered in this place.
-    #[inline(never)]
     fn remember<'a>(&mut self, place: usize, text: &'a [u8]) -> Option<(u64, &'a [u8])>
         requires place { place < 8 }
         requires long { 16 ≤ length text.now }
@@ -54,6 +76,7 @@ impl RecentClocks {
         let width = text.len() - rest.len();
         if width <= WIDTH {
             self.clocks[place] = Clock::of(text, width, seconds);
+            self.width = width;
         }
         Some((seconds, rest))
     }

@@ -8,6 +8,7 @@ use crate::kinds::Which;
 use crate::reading::{fields_of, kind_of};
 use crate::recent_clocks::RecentClocks;
 use cfs_model::{GREATEST_PROCESSOR, GREATEST_SECONDS, NANOSECONDS_PER_SECOND};
+use text_parts::packed::{TOGETHER, begins_with_column};
 use text_parts::pieces::{after_digits, after_gap};
 use text_parts::time::fraction_at;
 
@@ -104,6 +105,33 @@ fn is_unbroken(text: &[u8]) -> bool
 /// What follows the digits of the pid and the spaces behind them.
 #[inline(always)]
 fn after_pid(text: &[u8]) -> Option<&[u8]>
+    ensures { IfSome result (λ rest. HasPid text.now rest.now) }
+{
+    match after_pid_column(text) {
+        Some(rest) => Some(rest),
+        None => after_any_pid(text),
+    }
+}
+
+/// The same where they are the column of eight bytes that kernels print. What follows is sought behind eight bytes,
+/// whatever is among them, so a processor needn't wait for them.
+#[inline(always)]
+fn after_pid_column(text: &[u8]) -> Option<&[u8]>
+    ensures { IfSome result (λ rest. HasPid text.now rest.now) }
+{
+    if text.len() <= TOGETHER || !begins_with_column(text) {
+        return None;
+    }
+    let rest = &text[TOGETHER..];
+    if rest[0] == b' ' {
+        return None;
+    }
+    Some(rest)
+}
+
+/// The same in columns of any width, away from the reader of lines with that one.
+#[inline(never)]
+fn after_any_pid(text: &[u8]) -> Option<&[u8]>
     ensures { IfSome result (λ rest. HasPid text.now rest.now) }
 {
     let gap = after_digits(text)?;

@@ -12,7 +12,7 @@ ghost use Rattle.ticket_book.specs.Verdict.{IsVerdict};
 
 use crate::{
     Counted, Fault, Feed, Heard, LeastFigures, Outcome, Sink, Sizes, Status, Streamed, Verdict,
-    write_report,
+    write_in_pieces,
 };
 use cfs_model::Knobs;
 use std::alloc::Global;
@@ -42,7 +42,7 @@ pub(crate) fn run_streamed<J: Streamed, R: Threads + Sync, T: Feed, C: Feed, S: 
         (output_of (S.taken out.old) (S.taken out.new) (S.has_failed out.new)) result }
 {
     let heard: Heard<J> = judge_in_blocks(rt, alloc, trace, companion, knobs, sizes, &mut NoPast)?;
-    write_report(alloc, &heard.outcome, heard.tells_charges, out)
+    write_in_pieces(alloc, &heard.outcome, heard.tells_charges, out)
 }
 
 /// Reads both inputs to their ends, a block at a time, and judges them. A fault of the trace is told before one of the

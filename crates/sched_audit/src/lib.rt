@@ -14,7 +14,7 @@ pub use audit_crew::{Gate, OpenGate};
 pub use audit_input::{Cause, Failed, Fault, Feed, FeedOf, Refused, Source};
 pub use audit_report::{
     Counted, Finding, Judgement, Outcome, Sink, SinkOf, Status, Streamed, WithWaits, least_report,
-    report, write_report,
+    report, write_in_pieces, write_report,
 };
 pub use audit_request::{Color, Request, command_line};
 pub use blocks::{judge_in_blocks, run_counted_in_blocks, run_in_blocks, run_least_in_blocks};

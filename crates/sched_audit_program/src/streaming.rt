@@ -7,8 +7,8 @@ use audit_input::{Keeping, KeepingFeed};
 use given_texts::Input;
 use recent_past::RecentPast;
 use sched_audit::{
-    Feed, Heard, Judgement, Request, SinkOf, Sizes, Status, Streamed, block_sizes, judge_in_blocks,
-    write_report,
+    Feed, Heard, Request, SinkOf, Sizes, Status, Streamed, block_sizes, judge_in_blocks,
+    write_in_pieces,
 };
 use std::alloc::Global;
 use std::io;
@@ -62,7 +62,7 @@ fn explained_of<'a, J: Streamed, R: Files + Print + Threads + Sync, F: Feed, C: 
 }
 
 /// Writes the report, and an explanation behind it.
-fn write_explained<J: Judgement, R: Files + Print, F: Feed, C: Feed>(
+fn write_explained<J: Streamed, R: Files + Print, F: Feed, C: Feed>(
     rt: &R,
     alloc: Global,
     request: &Request<'_>,
@@ -71,7 +71,7 @@ fn write_explained<J: Judgement, R: Files + Print, F: Feed, C: Feed>(
     texts: &mut Texts<'_, R, F, C>,
 ) -> Result<Answer, Failure> {
     let mut out = FrontOf::new(SinkOf::new(io::writer(rt)));
-    let status = write_report(alloc, &heard.outcome, heard.tells_charges, &mut out)?;
+    let status = write_in_pieces(alloc, &heard.outcome, heard.tells_charges, &mut out)?;
     if status != Status::Yes {
         explain(rt, alloc, request, &heard.outcome, past, texts)?;
     }

@@ -2,8 +2,8 @@
 use Rattle.std.proofs.Common.{◌≡◌, ℕ, ◌+◌, ◌-◌, ◌≤◌, ◌<◌, min, Bool, true, false, cond, eqb, List, [], ◌∷◌, ◌++◌}
 use Rattle.std.proofs.Common.{length, take, drop, Some, refl, sym, ap, subst, ◌∙◌, arith}
 use Rattle.std.specs.List.{list_all}
-use Rattle.std.proofs.lemmas.List.{append-nil, take_at, drop_at, drop-drop, take-append-drop, length-append}
-use Rattle.std.proofs.lemmas.List.{length-take}
+use Rattle.std.proofs.lemmas.List.{append-nil, append_assoc, take_at, drop_at, drop-drop, take-append-drop}
+use Rattle.std.proofs.lemmas.List.{length-append, length-take}
 use Rattle.std.proofs.lemmas.Bool.{eqb-true, and_parts}
 use Rattle.std.proofs.lemmas.Bool.Decides.{nat_tests}
 use Rattle.std.proofs.lemmas.Option.{some_pair_parts}
@@ -14,8 +14,10 @@ use Rattle.text_parts.specs.Reading.{◌>>=◌, after_text}
 use Rattle.sched_event.specs.Reading.{run_at, sign_at, last_index, numeral_behind, state_behind, prio_behind}
 use Rattle.sched_event.specs.Reading.{name_behind}
 use Rattle.sched_event.proofs.KeyIndices.{index_stands, index_is_last}
+use Rattle.text_parts.proofs.Fronts.{front_then_rest}
 use Rattle.text_parts.proofs.Runs.{text_again, text_taken, Stops, bind_some}
 use Rattle.sched_event.proofs.Runs.{run_at_takes, run_at_again}
+use Rattle.sched_event.specs.Usual.{IsMiddlePrio}
 use Rattle.sched_event.proofs.Alone.{IsAlone}
 
 -- a field was taken from behind a key
@@ -195,3 +197,23 @@ pub prio_last : (key : List ℕ) (prio : Prio) → IsNumeral prio.digits
     → prio_behind key (key ++ prio_text prio) ≡ Some (prio, [])
 prio_last key prio numeral = ap (λ (text : List ℕ). prio_behind key (key ++ text)) (sym (append-nil (prio_text prio)))
     ∙ prio_behind_again key prio [] numeral tt
+
+-- the prio of nice 0 stands behind a key, where a text begins with both and a byte behind them
+pub middle_prio_behind : (key middle text : List ℕ) → IsMiddlePrio key middle → begins_with middle text ≡ true
+    → (take 3 (drop (length key) text) ≡ 49 ∷ 50 ∷ 48 ∷ [])
+    × (numeral_behind key text ≡ Some (take 3 (drop (length key) text), drop 3 (drop (length key) text)))
+    × (length key + 3 ≤ length text)
+middle_prio_behind key middle text is there =
+    let digits : List ℕ = 49 ∷ 50 ∷ 48 ∷ [] in
+    let rest : List ℕ = is.end ∷ (is.more ++ drop (length middle) text) in
+    let whole : text ≡ key ++ (digits ++ rest) = front_then_rest middle text there
+    ∙ ap (λ (front : List ℕ). front ++ drop (length middle) text) is.parts
+    ∙ append_assoc key (49 ∷ 50 ∷ 48 ∷ is.end ∷ is.more) (drop (length middle) text) in
+    let behind : drop (length key) text ≡ digits ++ rest = ap (drop (length key)) whole
+    ∙ drop_at key (digits ++ rest) (length key) refl in (
+      ap (take 3) behind,
+      ap (numeral_behind key) whole
+          ∙ numeral_behind_again key digits rest (record { some = omega arith; all = refl }) is.no_digit
+          ∙ rw (ap (take 3) behind, ap (drop 3) behind) refl,
+      omega (arith, ap length whole, length-append key (digits ++ rest)),
+    )

@@ -8,9 +8,7 @@ use Rattle.std.proofs.lemmas.List.Folds.{length-prefix_len}
 use Rattle.std.proofs.lemmas.List.{take_at, drop_at, take-append-drop}
 use Rattle.text_parts.specs.Numerals.{is_digit}
 use Rattle.text_parts.specs.Pieces.{IsRunOf}
-use Rattle.text_parts.proofs.Fronts.{front_then_rest}
 use Rattle.sched_event.specs.Reading.{run_at}
-use Rattle.sched_event.specs.Usual.{HasMiddlePrio}
 use Rattle.text_parts.proofs.Runs.{Stops, run_passes, prefix_len-run}
 use Rattle.sched_event.proofs.KeyIndices.{chosen}
 
@@ -44,24 +42,3 @@ run_at_again test front rest run stops =
     let count : prefix_len test (front ++ rest) ≡ length front = prefix_len-run test front rest run.all stops in
     let some : eqb (length front) 0 ≡ false = ne_eqb (length front) 0 (λ z. absurd (omega (arith, run.some))) in
     rw (count, some, take_at front rest (length front) refl, drop_at front rest (length front) refl) refl
-
--- what stands at the front where the prio of nice 0 does
-pub record IsMiddlePrio (text : List ℕ) : Type 0 where
-  pub digits : take 3 text ≡ 49 ∷ 50 ∷ 48 ∷ []
-  pub run : run_at is_digit text ≡ Some (take 3 text, drop 3 text)
-  pub long : 3 ≤ length text
-
-pub middle_prio_stands : (text : List ℕ) → HasMiddlePrio text → IsMiddlePrio text
-middle_prio_stands text has =
-    let digits : List ℕ = 49 ∷ 50 ∷ 48 ∷ [] in
-    let end : List ℕ = has.end ∷ drop 4 text in
-    let whole : text ≡ digits ++ end = front_then_rest (49 ∷ 50 ∷ 48 ∷ has.end ∷ []) text has.there in
-    let front : take 3 text ≡ digits = ap (take 3) whole in
-    let behind : drop 3 text ≡ end = ap (drop 3) whole in
-    record {
-      digits = front;
-      run = ap (run_at is_digit) whole
-          ∙ run_at_again is_digit digits end (record { some = omega arith; all = refl }) has.no_digit
-          ∙ rw (front, behind) refl;
-      long = omega (arith, ap length whole);
-    }

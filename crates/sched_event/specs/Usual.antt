@@ -8,7 +8,6 @@ use Rattle.ftrace_line.specs.declared.kinds.Which.{Which}
 use Rattle.ftrace_line.specs.Line.{LineAnswer, other, sched}
 use Rattle.text_parts.specs.Lines.{is_line_feed, lines_of}
 use Rattle.text_parts.specs.Numerals.{is_digit}
-use Rattle.text_parts.specs.Pieces.{begins_with}
 use Rattle.text_parts.specs.Unbroken.{IsUnbroken}
 use Rattle.sched_event.specs.Event.{EventView, EventAnswer, act_of}
 use Rattle.sched_event.specs.Texts.{EventText, Reads}
@@ -23,11 +22,12 @@ pub record HasField (key text field rest : List ℕ) : Type 0 where
   pub unbroken : IsUnbroken field
   pub parts : text ≡ key ++ (field ++ rest)
 
--- the prio of nice 0 stands at the front of a text, and no digit follows it
-pub record HasMiddlePrio (text : List ℕ) : Type 0 where
+-- the prio of nice 0 behind a key, and behind it what begins with no digit
+pub record IsMiddlePrio (key text : List ℕ) : Type 0 where
   pub end : ℕ
+  pub more : List ℕ
   pub no_digit : is_digit end ≡ false
-  pub there : begins_with (49 ∷ 50 ∷ 48 ∷ end ∷ []) text ≡ true
+  pub parts : text ≡ key ++ (49 ∷ 50 ∷ 48 ∷ end ∷ more)
 
 -- an event's fields stand at the front of a text, and no line ends in them
 pub record HasFields (which : Which) (text : List ℕ) (read : EventText) (rest : List ℕ) : Type 0 where

@@ -200,7 +200,8 @@ pub(crate) fn optional_numeral<'a>(text: &'a [u8], key: &[u8]) -> (Option<Numera
 }
 
 /// Reads the keyed fields of a text one behind the other, each by the reader that is named, and leaves `$rest` at
-/// what follows them. A name is read up to the key behind it.
+/// what follows them. A name is read up to the key behind it. A prio may be told with its key as it mostly stands
+/// there.
 macro_rules! fields {
     ($rest:ident;) => {};
     ($rest:ident; $key:literal => $field:ident: name, $next:literal => $($more:tt)*) => {
@@ -209,6 +210,10 @@ macro_rules! fields {
     };
     ($rest:ident; $key:literal => $field:ident: optional_numeral, $($more:tt)*) => {
         let ($field, $rest) = optional_numeral($rest, $key);
+        fields!($rest; $($more)*);
+    };
+    ($rest:ident; $key:literal => $field:ident: prio($middle:literal), $($more:tt)*) => {
+        let ($field, $rest) = prio($rest, $key, $middle)?;
         fields!($rest; $($more)*);
     };
     ($rest:ident; $key:literal => $field:ident: $reader:ident, $($more:tt)*) => {

@@ -127,11 +127,11 @@ fn switch_front(text: &[u8]) -> Option<(SwitchFields<'_>, &[u8])>
     fields!(rest;
         b"prev_comm=" => prev_name: name,
         b" prev_pid=" => prev: numeral_there,
-        b" prev_prio=" => prev_prio: prio,
+        b" prev_prio=" => prev_prio: prio(b" prev_prio=120 p"),
         b" prev_state=" => prev_state: state,
         b" ==> next_comm=" => next_name: name,
         b" next_pid=" => next: numeral_there,
-        b" next_prio=" => next_prio: prio,
+        b" next_prio=" => next_prio: prio(b" next_prio=120\n"),
     );
     Some((
         SwitchFields {
@@ -156,7 +156,7 @@ fn wakeup_front(text: &[u8]) -> Option<(WakeupFields<'_>, &[u8])>
     fields!(rest;
         b"comm=" => task: name,
         b" pid=" => pid: numeral_there,
-        b" prio=" => task_prio: prio,
+        b" prio=" => task_prio: prio(b" prio=120 target"),
         b" target_cpu=" => target: numeral,
     );
     Some((
@@ -181,7 +181,7 @@ fn migration_front(text: &[u8]) -> Option<(MigrationFields<'_>, &[u8])>
     fields!(rest;
         b"comm=" => task: name,
         b" pid=" => pid: numeral_there,
-        b" prio=" => task_prio: prio,
+        b" prio=" => task_prio: prio(b" prio=120 orig_c"),
         b" orig_cpu=" => orig: numeral,
         b" dest_cpu=" => dest: numeral,
     );

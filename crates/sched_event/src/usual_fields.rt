@@ -11,12 +11,11 @@ ghost use Rattle.sched_event.specs.Reading.{numeral_behind, prio_behind, run_at}
 ghost use Rattle.text_parts.specs.Numerals.{is_digit};
 ghost use Rattle.text_parts.specs.Pieces.{begins_with};
 ghost use Rattle.text_parts.specs.Reading.{Gives};
-ghost use Rattle.sched_event.specs.Usual.{HasField, HasMiddlePrio, is_plain};
+ghost use Rattle.sched_event.specs.Usual.{HasField, IsMiddlePrio, is_plain};
 
-use crate::fields::{NAME_MAX, PrioFields, digits};
+use crate::fields::{NAME_MAX, PrioFields, digits, numeral};
 use crate::numeral::Numeral;
 use std::simd::prelude::*;
-use text_parts::numerals::is_digit_byte;
 use text_parts::packed::{TOGETHER, first_set};
 use text_parts::pieces::{after_front, begins_with};
 
@@ -56,50 +55,42 @@ pub(crate) fn state<'a>(text: &'a [u8], key: &[u8]) -> Option<(&'a [u8], &'a [u8
     Some(after.split_at(count))
 }
 
-/// The prio behind a key, where it has no sign, as that of each fair task, and what follows it.
+/// The prio behind a key, where it has no sign, as that of each fair task, and what follows it. Most tasks have that of
+/// nice 0. So the text is held first against the key with that prio and some of what stands behind it.
 #[inline(always)]
-pub(crate) fn prio<'a>(text: &'a [u8], key: &[u8]) -> Option<(PrioFields<'a>, &'a [u8])>
+pub(crate) fn prio<'a>(
+    text: &'a [u8],
+    key: &[u8],
+    middle: &[u8],
+) -> Option<(PrioFields<'a>, &'a [u8])>
+    requires { IsMiddlePrio key.now middle.now }
     ensures { IfSome result (λ x. prio_behind key.now text.now ≡ Some (prio_pair x)) }
 {
-    let (numeral, rest) = prio_numeral(text, key)?;
+    let (numeral, rest) = prio_numeral(text, key, middle)?;
     let minus = false;
     Some((PrioFields { minus, numeral }, rest))
 }
 
 /// The digits of a prio behind a key, and what follows them.
 #[inline(always)]
-#[tactic(auto, unfolding(crate::specs::Reading::numeral_behind))]
-fn prio_numeral<'a>(text: &'a [u8], key: &[u8]) -> Option<(Numeral<'a>, &'a [u8])>
-    ensures { Gives numeral_pair result (numeral_behind key.now text.now) }
+fn prio_numeral<'a>(text: &'a [u8], key: &[u8], middle: &[u8]) -> Option<(Numeral<'a>, &'a [u8])>
+    requires { IsMiddlePrio key.now middle.now }
+    ensures { IfSome result (λ x. numeral_behind key.now text.now ≡ Some (numeral_pair x)) }
 {
-    let after = after_front(text, key)?;
-    match middle_prio(after) {
-        Some(found) => Some(found),
-        None => digits(after),
+    if begins_with(text, middle) {
+        return Some(middle_numeral(text, key, middle));
     }
+    numeral(text, key)
 }
 
-/// The digits of the prio that most tasks have, that of nice 0, and what follows them.
+/// The digits of the prio that most tasks have, that of nice 0, behind a key, and what follows them.
 #[inline(always)]
-fn middle_prio<'a>(text: &'a [u8]) -> Option<(Numeral<'a>, &'a [u8])>
-    ensures { IfSome result (λ x. run_at is_digit text.now ≡ Some (numeral_pair x)) }
+fn middle_numeral<'a>(text: &'a [u8], key: &[u8], middle: &[u8]) -> (Numeral<'a>, &'a [u8])
+    requires middle { IsMiddlePrio key.now middle.now }
+    requires there { begins_with middle.now text.now ≡ true }
+    ensures { numeral_behind key.now text.now ≡ Some (numeral_pair result) }
 {
-    let [b'1', b'2', b'0', end, ..] = text else {
-        return None;
-    };
-    if is_digit_byte(*end) {
-        return None;
-    }
-    Some(after_middle_prio(text))
-}
-
-/// The digits of this prio where they stand in front, and what follows them.
-#[inline(always)]
-fn after_middle_prio<'a>(text: &'a [u8]) -> (Numeral<'a>, &'a [u8])
-    requires { HasMiddlePrio text.now }
-    ensures { run_at is_digit text.now ≡ Some (numeral_pair result) }
-{
-    let (digits, rest) = text.split_at(3);
+    let (digits, rest) = text[key.len()..].split_at(3);
     let value = 120;
     (Numeral { digits, value }, rest)
 }

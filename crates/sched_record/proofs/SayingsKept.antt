@@ -20,7 +20,7 @@ from_ok (Err e) h p = absurd (true≢false h)
 
 same_saying : (more : List Saying) (new : Saying) (said : Said) → whole_for said ≤ length more
     → saying_of (more ++ new ∷ []) said ≡ saying_of more said
-same_saying more new Nothing h = refl
+same_saying more new (Nothing other) h = refl
 same_saying more new (OneClaim claim) h = refl
 same_saying more new (More place) h = get_or_append_left more (new ∷ []) nothing_said place (omega (arith, h))
 

@@ -2,20 +2,42 @@ ghost use Rattle.std.specs.Prelude.{◌≡◌, ◌<◌, ◌≤◌, [], ◌∷◌
 ghost use Rattle.std.specs.Prelude.{slice_index_or};
 ghost use Rattle.std.proofs.Props.{props};
 ghost use Rattle.cfs_model.specs.declared.policy.Policy.TheVariants.{Normal};
-ghost use Rattle.sched_record.specs.Sayings.{IsSaid, nothing_said, whole_for};
+ghost use Rattle.sched_record.specs.Sayings.{IsAlone, IsSaid, alone_of, claim_alone, nothing_said, whole_for};
 
 use crate::window::Saying;
-use cfs_model::{Claim, Memory, Policy};
+use cfs_model::{Claim, ClaimSort, Memory, NO_LINE, Policy};
 use std::alloc::Global;
 use std::marker::Model;
 
 /// What is said on one line: nothing or a claim on nearly each.
 #[derive(Clone, Copy, Debug)]
 pub(crate) enum Said {
-    Nothing,
+    /// Nothing. The claim is another line's, and is written all the same: so nobody has to guess whether one is said.
+    Nothing(Claim),
     OneClaim(Claim),
     /// More than that: where it stands among what is kept whole.
     More(usize),
+}
+
+impl Said {
+    /// Whether more is said than a claim.
+    #[inline(always)]
+    pub(crate) fn is_more(self) -> bool
+        ensures { result ≡ false → IsAlone self (alone_of self) }
+    {
+        matches!(self, Said::More(_))
+    }
+
+    /// The claim that is said alone, if one is.
+    #[inline(always)]
+    pub(crate) fn claim(self) -> Option<Claim>
+        ensures { result ≡ alone_of self }
+    {
+        match self {
+            Said::OneClaim(claim) => Some(claim),
+            Said::Nothing(_) | Said::More(_) => None,
+        }
+    }
 }
 
 /// A list of what is said on lines, in little room.
@@ -44,6 +66,14 @@ const NOTHING_SAID: Saying = Saying {
     policy: Policy::Normal,
 };
 
+/// What stands in the place of a claim where none is said.
+const NO_CLAIM: Claim = Claim {
+    line: NO_LINE,
+    pid: 0,
+    v: 0,
+    sort: ClaimSort::At,
+};
+
 impl Sayings {
     ghost use Rattle.sched_record.specs.declared.window.Saying.{Saying as SayingOf};
 
@@ -66,11 +96,24 @@ impl Sayings {
         if says_more(&saying) {
             return self.push_whole(saying);
         }
-        let said = match saying.claim {
-            Some(claim) => Said::OneClaim(claim),
-            None => Said::Nothing,
-        };
-        self.said.push(said)?;
+        match saying.claim {
+            Some(claim) => self.push_claim(&claim, true),
+            None => self.push_claim(&NO_CLAIM, false),
+        }
+    }
+
+    /// Adds this claim alone behind the others, or nothing in its place, unless a growth is refused.
+    #[inline(always)]
+    pub(crate) fn push_claim(&mut self, claim: &Claim, is_said: bool) -> Result<(), Memory>
+        ensures added { OnOk result (self.new ≡ self.old ++ claim_alone is_said claim.now ∷ []) }
+        ensures same { OnErr result (self.new ≡ self.old) }
+    {
+        self.said.reserve(1)?;
+        self.said.push_reserved(if is_said {
+            Said::OneClaim(*claim)
+        } else {
+            Said::Nothing(*claim)
+        });
         Ok(())
     }
 
@@ -129,7 +172,7 @@ impl Sayings {
         ensures { result ≡ slice_index_or self.now index result }
     {
         match self.said[index] {
-            Said::Nothing => NOTHING_SAID,
+            Said::Nothing(_) => NOTHING_SAID,
             Said::OneClaim(claim) => Saying {
                 claim: Some(claim),
                 nice: None,

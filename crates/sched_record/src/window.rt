@@ -1,5 +1,5 @@
 ghost use Rattle.std.specs.Prelude.{◌≡◌, ◌==◌, ℕ, ◌<◌, ◌^◌, ◌++◌, [], ◌∷◌, length};
-ghost use Rattle.std.specs.Prelude.{if◌then◌else◌, ◌≤◌, IfSome, IsSome, None, OnErr, OnOk};
+ghost use Rattle.std.specs.Prelude.{if◌then◌else◌, ◌≤◌, IfSome, IsSome, None, OnErr, OnOk, vec_capacity};
 ghost use Rattle.std.specs.List.{list_any};
 ghost use Rattle.std.proofs.Props.{props};
 ghost use Rattle.cfs_model.specs.Limits.{most_processors};
@@ -8,7 +8,7 @@ ghost use Rattle.sched_record.specs.Indices.{AreIndicesOf, indices_at, touches_c
 
 use crate::dealing::{step_at, write_usual};
 use crate::indices::Indices;
-use crate::sayings::{Said, Sayings};
+use crate::sayings::Sayings;
 use cfs_model::{Act, ChargeLine, Claim, Entry, MOST_PROCESSORS, Memory, NiceLine, Policy};
 use replay_model::Step;
 use std::alloc::Global;
@@ -38,6 +38,7 @@ impl Window {
     ghost use Rattle.cfs_model.specs.Claimed.{Claimed};
     ghost use Rattle.replay_model.specs.Cut.{steps_at};
     ghost use Rattle.replay_model.specs.StepAt.{step_at as step_here};
+    ghost use Rattle.sched_record.specs.Sayings.{claim_alone};
     ghost use Rattle.sched_record.specs.Window.{AreTouching, said_beside, said_of, window_view};
 
     /// A window without events.
@@ -52,19 +53,34 @@ impl Window {
     }
 
     /// Adds an event behind the others, with what is said on its line.
-    #[inline(always)]
     pub fn add(&mut self, event: &Entry, saying: Saying) -> Result<(), Memory>
         ensures added { OnOk result (window_view self.new ≡ window_view self.old ++ said_of event.now saying ∷ []) }
         ensures same { OnErr result (window_view self.new ≡ window_view self.old) }
     {
         self.events.reserve(1)?;
         self.sayings.push(saying)?;
-        let added = add_index(&mut self.indices, event.act, self.events.len());
+        let added = push_event(&mut self.events, &mut self.indices, event);
         if added.is_err() {
             self.sayings.pop();
             return added;
         }
-        self.events.push_reserved(*event);
+        Ok(())
+    }
+
+    /// The same of an event on whose line no more is said than this claim, or nothing.
+    #[inline(always)]
+    pub fn add_claimed(&mut self, event: &Entry, claim: &Claim, is_said: bool) -> Result<(), Memory>
+        ensures added { OnOk result
+            (window_view self.new ≡ window_view self.old ++ said_of event.now (claim_alone is_said claim.now) ∷ []) }
+        ensures same { OnErr result (window_view self.new ≡ window_view self.old) }
+    {
+        self.events.reserve(1)?;
+        self.sayings.push_claim(claim, is_said)?;
+        let added = push_event(&mut self.events, &mut self.indices, event);
+        if added.is_err() {
+            self.sayings.pop();
+            return added;
+        }
         Ok(())
     }
 
@@ -127,14 +143,12 @@ impl Window {
             → step.new ≡ step_here cpu here }
     {
         let index = index as usize;
-        match self.sayings.said_at(index) {
-            Said::Nothing => step.claim = None,
-            Said::OneClaim(claim) => step.claim = Some(claim),
-            Said::More(_) => {
-                self.write_whole(index, cpu, step);
-                return;
-            }
+        let said = self.sayings.said_at(index);
+        if said.is_more() {
+            self.write_whole(index, cpu, step);
+            return;
         }
+        step.claim = said.claim();
         write_usual(&self.events[index], cpu, step);
     }
 
@@ -223,6 +237,20 @@ fn push<T: Drop>(list: &mut Vec<T>, item: T) -> Result<(), Memory>
     ensures { OnOk result (list.new.items ≡ list.old.items ++ item ∷ []) }
 {
     list.push(item)?;
+    Ok(())
+}
+
+/// Adds an event behind the others, where there is room, and to the indices of the processors that it touches.
+#[inline(always)]
+fn push_event(events: &mut Vec<Entry>, indices: &mut Indices, event: &Entry) -> Result<(), Memory>
+    requires room { length events.old.items < vec_capacity events.old }
+    requires indexed { length events.old.items < 2 ^ 32 → AreIndicesOf events.old.items indices.old }
+    ensures added { OnOk result (events.new.items ≡ events.old.items ++ event.now ∷ []) }
+    ensures same { OnErr result (events.new.items ≡ events.old.items) }
+    ensures indexed { length events.new.items < 2 ^ 32 → AreIndicesOf events.new.items indices.new }
+{
+    add_index(indices, event.act, events.len())?;
+    events.push_reserved(*event);
     Ok(())
 }
 

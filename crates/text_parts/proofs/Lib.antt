@@ -6,7 +6,9 @@ pub mod Packing
 pub mod FrontValues
 pub mod FrontMasks
 pub mod FrontRuns
+pub mod Columns
 pub mod LongFronts
+pub mod Marked
 pub mod Runs
 pub mod Fronts
 pub mod Times

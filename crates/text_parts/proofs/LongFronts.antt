@@ -55,7 +55,7 @@ pub record Front (text : List ℕ) (count value : ℕ) : Type 0 where
   pub value_is : value ≡ min (value_of (take_while is_digit text)) many
   pub below : value < 10 ^ 18
 
-front_of : (text : List ℕ) (count value : ℕ) → count ≤ length text → count ≤ 18
+pub front_of : (text : List ℕ) (count value : ℕ) → count ≤ length text → count ≤ 18
     → ((k : ℕ) → k < count → is_digit (get_or text k 0) ≡ true)
     → (count < length text → is_digit (get_or text count 0) ≡ false) → value ≡ value_of (take count text)
     → Front text count value

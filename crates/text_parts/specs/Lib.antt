@@ -5,3 +5,4 @@ pub mod Lines
 pub mod Time
 pub mod Reading
 pub mod Unbroken
+pub mod Marks

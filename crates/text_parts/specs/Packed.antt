@@ -1,6 +1,8 @@
 -- Bytes that are read eight at a time. Nothing here is to be believed.
-use Rattle.std.specs.Prelude.{◌≡◌, ℕ, ◌+◌, ◌*◌, ◌%◌, ◌<◌, ◌≤◌, Bool, true, false, List, nat_lt, take, get_or}
-use Rattle.text_parts.specs.Numerals.{is_digit, value_of}
+use Rattle.std.specs.Prelude.{◌≡◌, ℕ, ◌+◌, ◌*◌, ◌%◌, ◌<◌, ◌≤◌, Bool, true, false, List, ◌++◌, nat_lt, take, drop}
+use Rattle.std.specs.Prelude.{get_or}
+use Rattle.text_parts.specs.Numerals.{is_digit, value_of, IsNumeral}
+use Rattle.text_parts.specs.Pieces.{IsGap}
 
 -- a byte less that of the digit 0: the value of a digit, and more than 9 where the byte is none
 abbrev pub less_zero : ℕ → ℕ
@@ -28,3 +30,11 @@ pub record BeginsWithRun (test : ℕ → Bool) (text : List ℕ) (count : ℕ) :
   pub few : count ≤ 8
   pub passed : (k : ℕ) → k < count → test (get_or text k 0) ≡ true
   pub stops : count < 8 → test (get_or text count 0) ≡ false
+
+-- the first eight bytes are digits and then spaces
+pub record BeginsWithColumn (text : List ℕ) : Type 0 where
+  pub digits : List ℕ
+  pub form : IsNumeral digits
+  pub gap : List ℕ
+  pub gap_form : IsGap gap
+  pub parts : text ≡ digits ++ (gap ++ drop 8 text)

@@ -3,6 +3,7 @@
 
 pub mod cutting;
 pub mod lines;
+pub mod marks;
 pub mod numerals;
 pub mod packed;
 pub mod pieces;

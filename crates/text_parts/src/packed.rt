@@ -3,12 +3,14 @@
 
 ghost use Rattle.std.specs.Prelude.{◌≡◌, ℕ, ◌+◌, ◌*◌, ◌<◌, ◌≤◌, ◌^◌, length, take, drop, min, map, get_or, true};
 ghost use Rattle.std.specs.Prelude.{◌==◌, if◌then◌else◌, not};
+ghost use Rattle.std.specs.Bool.{OnTrue};
 ghost use Rattle.std.specs.Int.Count.{count_trailing_zeros};
 ghost use Rattle.std.specs.List.{prefix_len, take_while};
 ghost use Rattle.std.specs.Simd.Lanes.{mask_l, number_l};
 ghost use Rattle.text_parts.specs.Numerals.{is_digit, value_of, many};
 ghost use Rattle.text_parts.specs.Pieces.{is_space};
-ghost use Rattle.text_parts.specs.Packed.{is_above_nine, less_zero, Joins, BeginsWithDigits, BeginsWithRun};
+ghost use Rattle.text_parts.specs.Packed.{is_above_nine, less_zero, Joins, BeginsWithColumn, BeginsWithDigits};
+ghost use Rattle.text_parts.specs.Packed.{BeginsWithRun};
 ghost use Rattle.text_parts.specs.Reading.{Gives, numeral_at};
 
 use crate::numerals::further_digits;
@@ -18,7 +20,9 @@ use std::simd::prelude::*;
 pub const TOGETHER: usize = 8;
 
 /// What digits before others are worth, by how many others there are.
-const TENS: [u64; TOGETHER] = [1, 10, 100, 1_000, 10_000, 100_000, 1_000_000, 10_000_000];
+pub(crate) const TENS: [u64; TOGETHER] = [
+    1, 10, 100, 1_000, 10_000, 100_000, 1_000_000, 10_000_000,
+];
 
 /// The same as `numeral_at`, for places where numbers are long.
 #[inline(always)]
@@ -89,6 +93,23 @@ pub(crate) fn spaces_in_front(text: &[u8]) -> usize
     first_set(no_spaces(u8x8::from_slice(text)))
 }
 
+/// Whether the first eight bytes of a text are a column: digits and then spaces, one or more of each. How many are
+/// digits is told by no branch, and nothing that is read behind the column waits for it.
+#[inline(always)]
+pub fn begins_with_column(text: &[u8]) -> bool
+    requires { 8 ≤ length text.now }
+    ensures { OnTrue result (BeginsWithColumn text.now) }
+{
+    let digits = digits_in_front(text);
+    if digits == 0 || digits == TOGETHER {
+        return false;
+    }
+    if no_spaces(u8x8::from_slice(text)) >> digits != 0 {
+        return false;
+    }
+    true
+}
+
 /// Which of eight bytes are no spaces, by a bit for each.
 #[inline(always)]
 fn no_spaces(bytes: u8x8) -> u64
@@ -126,6 +147,19 @@ pub(crate) fn eight_at(text: &[u8]) -> (usize, u64)
     }
     // The digits move up to the end of the word, behind zeros.
     (count, joined(word_of(digits) << (64 - 8 * count)))
+}
+
+/// The value of the digits at the front of a text, of which there are so many.
+#[inline(always)]
+pub(crate) fn front_value(text: &[u8], count: usize) -> u64
+    requires long { 8 ≤ length text.now }
+    requires some { 0 < count }
+    requires few { count ≤ 8 }
+    requires digits { (k : ℕ) → k < count → is_digit (get_or text.now k 0) ≡ true }
+    ensures { result ≡ value_of (take count text.now) }
+{
+    // The digits move up to the end of the word, behind zeros.
+    joined(word_of(digits_in(text)) << (64 - 8 * count))
 }
 
 /// The word that the first eight bytes of a text are, the first the lowest.

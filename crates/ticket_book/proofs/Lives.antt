@@ -1,74 +1,62 @@
--- Who lives, by rows of pids: a row that is written over, or one more, as the roll puts a pid.
-use Rattle.std.proofs.Common.{◌≡◌, ◌≢◌, ℕ, Bool, false, List, [], ◌∷◌, ◌++◌, Option, Some, None, length, set}
-use Rattle.std.proofs.Common.{get_or, slice_get, refl, sym, ap, ◌∙◌}
-use Rattle.std.specs.Prelude.{unwrap_or}
+-- Who lives, by a list with a place for each pid: a place is written over as the roll puts a pid, and places behind the
+-- last say nothing new.
+use Rattle.std.proofs.Common.{◌≡◌, ℕ, ◌+◌, ◌-◌, ◌<◌, ◌≤◌, Bool, false, List, ◌++◌, length, set, replicate, take, get_or}
+use Rattle.std.proofs.Common.{refl, sym, ap, ◌∙◌, inl, inr, arith}
+use Rattle.std.proofs.lemmas.Bool.{cases_lt}
+use Rattle.std.proofs.lemmas.List.{get_or_append_left, get_or-append-add, get_or-replicate, get_or-set_other}
+use Rattle.std.proofs.lemmas.List.{get_or-set_same, get_or_past, length-replicate, take_all}
 use Rattle.cfs_model.specs.Machine.{put}
-use Rattle.pid_table.proofs.Changes.{index_new, index_other, push_before, push_here, row_within, set_here, set_there}
-use Rattle.pid_table.proofs.Indices.{pid_there}
-use Rattle.pid_table.specs.Rows.{AreSound, Rows, index_in}
-use Rattle.ticket_book.specs.Alive.{lives_at, lives_in}
+use Rattle.ticket_book.specs.Alive.{lives_in}
 use Rattle.ticket_book.proofs.Living.{by_put}
 
--- what is said of a pid, by where its row is
-pub at_row : (table : Rows Bool) (pid row : ℕ) → index_in table.pids pid ≡ Some row
-    → lives_in table pid ≡ unwrap_or (slice_get table.rows row) false
+-- a place is what it is
+pub lives_at : (lives : List Bool) (pid : ℕ) → lives_in lives pid ≡ get_or lives pid false
 unfolding lives_in
-at_row table pid row is = ap (lives_at table.rows) is
+lives_at lives pid = refl
 
-pub without_row : (table : Rows Bool) (pid : ℕ) → index_in table.pids pid ≡ None → lives_in table pid ≡ false
+-- nobody lives who has no place
+pub without_place : (lives : List Bool) (pid : ℕ) → length lives ≤ pid → lives_in lives pid ≡ false
 unfolding lives_in
-without_row table pid none = ap (lives_at table.rows) none
+without_place lives pid beyond = get_or_past lives pid false beyond
 
--- tables with the same pids and rows
-pub lives_same : (old new : Rows Bool) → new.pids ≡ old.pids → new.rows ≡ old.rows → (q : ℕ)
-    → lives_in new q ≡ lives_in old q
+-- a place is written over
+pub place_put : (lives : List Bool) (pid : ℕ) (b : Bool) → pid < length lives → (q : ℕ)
+    → lives_in (set lives pid b) q ≡ put (lives_in lives) pid b q
 unfolding lives_in
-lives_same old new pids rows q = λ j. lives_at (rows j) (index_in (pids j) q)
+place_put lives pid b within =
+    by_put (lives_in lives) (lives_in (set lives pid b)) pid b (get_or-set_same lives pid b false within)
+    (λ q ne. get_or-set_other lives pid q b false ne)
 
--- nobody lives where no pid was named
-pub nobody : (table : Rows Bool) → table.pids ≡ [] → (q : ℕ) → lives_in table q ≡ false
-nobody table none q = without_row table q (ap (λ pids. index_in pids q) none)
+-- one without a place that is to end
+pub nothing_put : (lives : List Bool) (pid : ℕ) → length lives ≤ pid → (q : ℕ)
+    → lives_in lives q ≡ put (lives_in lives) pid false q
+nothing_put lives pid beyond =
+    by_put (lives_in lives) (lives_in lives) pid false (without_place lives pid beyond) (λ q ne. refl)
 
--- one without a row that is to end
-pub nothing_put : (table : Rows Bool) (pid : ℕ) → index_in table.pids pid ≡ None → (q : ℕ)
-    → lives_in table q ≡ put (lives_in table) pid false q
-nothing_put table pid none =
-    by_put (lives_in table) (lives_in table) pid false (without_row table pid none) (λ q ne. refl)
+places_behind : (lives : List Bool) (n : ℕ) → length lives ≤ n → (q : ℕ)
+    → lives_in (take n lives ++ replicate (n - length lives) false) q ≡ lives_in lives q
+unfolding lives_in
+places_behind lives n le q =
+    let more : List Bool = replicate (n - length lives) false in
+    ap (λ (l : List Bool). get_or (l ++ more) q false) (take_all n lives le) ∙ elim (cases_lt q (length lives)) [
+      | inl before ↦ get_or_append_left lives more false q before
+      | inr behind ↦
+          let at : length lives + (q - length lives) ≡ q = omega (arith, behind) in
+          ap (λ k. get_or (lives ++ more) k false) (sym at)
+          ∙ get_or-append-add lives more (q - length lives) false
+          ∙ further (q - length lives)
+          ∙ sym (get_or_past lives q false (omega (arith, behind)))
+    ]
+  where
+    further : (k : ℕ) → get_or (replicate (n - length lives) false) k false ≡ false
+    further k = elim (cases_lt k (n - length lives)) [
+      | inl within ↦ get_or-replicate (n - length lives) k false false within
+      | inr beyond ↦ get_or_past (replicate (n - length lives) false) k false
+          (omega (arith, beyond, length-replicate (n - length lives) false))
+    ]
 
-module _ (old new : Rows Bool) (sound : AreSound old) where
-  -- a row is written over
-  pub row_put : (row : ℕ) (b : Bool) → new.pids ≡ old.pids → new.rows ≡ set old.rows row b → (pid : ℕ)
-      → index_in old.pids pid ≡ Some row → (q : ℕ) → lives_in new q ≡ put (lives_in old) pid b q
-  row_put row b pids rows pid is = by_put (lives_in old) (lives_in new) pid b
-      (at_row new pid row (ap (λ l. index_in l pid) pids ∙ is)
-      ∙ ap (λ l. unwrap_or (slice_get l row) false) rows
-      ∙ ap (λ o. unwrap_or o false) (set_here old.rows row b (row_within old sound pid row is)))
-      (λ q ne. go q ne (index_in old.pids q) refl)
-    where
-      go : (q : ℕ) → q ≢ pid → (o : Option ℕ) → index_in old.pids q ≡ o → lives_in new q ≡ lives_in old q
-      go q ne None none = without_row new q (ap (λ l. index_in l q) pids ∙ none) ∙ sym (without_row old q none)
-      go q ne (Some k) at = at_row new q k (ap (λ l. index_in l q) pids ∙ at)
-          ∙ ap (λ l. unwrap_or (slice_get l k) false) rows
-          ∙ ap (λ o. unwrap_or o false) (set_there old.rows row k b (λ e. ne (sym (pid_there old.pids q k 0 at)
-          ∙ ap (λ i. get_or old.pids i 0) e ∙ pid_there old.pids pid row 0 is)))
-          ∙ sym (at_row old q k at)
-
-  -- a row is added
-  pub pid_put : (pid : ℕ) (b : Bool) → index_in old.pids pid ≡ None → new.pids ≡ old.pids ++ pid ∷ []
-      → new.rows ≡ old.rows ++ b ∷ [] → (q : ℕ) → lives_in new q ≡ put (lives_in old) pid b q
-  pid_put pid b none pids rows = by_put (lives_in old) (lives_in new) pid b
-      (at_row new pid (length old.rows)
-      (ap (λ l. index_in l pid) pids ∙ index_new old.pids pid none ∙ ap Some (sym sound.one_each))
-      ∙ ap (λ l. unwrap_or (slice_get l (length old.rows)) false) rows
-      ∙ ap (λ o. unwrap_or o false) (push_here old.rows b))
-      (λ q ne. go q ne (index_in old.pids q) refl)
-    where
-      go : (q : ℕ) → q ≢ pid → (o : Option ℕ) → index_in old.pids q ≡ o → lives_in new q ≡ lives_in old q
-      go q ne None is =
-          without_row new q (ap (λ l. index_in l q) pids ∙ index_other old.pids pid q ne ∙ is)
-          ∙ sym (without_row old q is)
-      go q ne (Some k) is =
-          at_row new q k (ap (λ l. index_in l q) pids ∙ index_other old.pids pid q ne ∙ is)
-          ∙ ap (λ l. unwrap_or (slice_get l k) false) rows
-          ∙ ap (λ o. unwrap_or o false) (push_before old.rows b k (row_within old sound q k is))
-          ∙ sym (at_row old q k is)
+-- places for further pids
+pub places_more : (lives : List Bool) (n len : ℕ) → len ≡ length lives → length lives ≤ n → (q : ℕ)
+    → lives_in (take n lives ++ replicate (n - len) false) q ≡ lives_in lives q
+places_more lives n len e le q =
+    ap (λ l. lives_in (take n lives ++ replicate (n - l) false) q) e ∙ places_behind lives n le q

@@ -1,6 +1,6 @@
 -- Who is alive as a function of pids, once one has begun or ended: as the roll puts one.
 use Rattle.std.proofs.Common.{◌≡◌, ◌≢◌, ℕ, zero, suc, nat_eq, Bool, true, false, cond, Option, Some, None, is_some}
-use Rattle.std.proofs.Common.{inl, inr, List, [], ◌∷◌, ◌++◌, refl, sym, ap, ◌∙◌, arith}
+use Rattle.std.proofs.Common.{inl, inr, List, [], ◌∷◌, ◌++◌, refl, sym, ap, ◌∙◌}
 use Rattle.std.specs.Option.{option_or}
 use Rattle.std.proofs.lemmas.Bool.{eq-eqb, ne_eqb}
 use Rattle.std.proofs.lemmas.List.Folds.{find-append}
@@ -22,7 +22,8 @@ by_put before after pid b here there q = elim (same_or_not q pid) [
   | inr ne ↦ there q ne ∙ sym (put-other before pid b q ne)
 ]
 
-put_along : (f g : ℕ → Bool) (key : ℕ) (b : Bool) → ((q : ℕ) → f q ≡ g q) → (q : ℕ) → put f key b q ≡ put g key b q
+-- putting a pid in or out of what is said alike
+pub put_along : (f g : ℕ → Bool) (key : ℕ) (b : Bool) → ((q : ℕ) → f q ≡ g q) → (q : ℕ) → put f key b q ≡ put g key b q
 put_along f g key b h q = elim (same_or_not q key) [
   | inl same ↦ ap (put f key b) same ∙ put-same f key b ∙ sym (put-same g key b) ∙ ap (put g key b) (sym same)
   | inr ne ↦ put-other f key b q ne ∙ h q ∙ sym (put-other g key b q ne)

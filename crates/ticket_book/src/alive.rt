@@ -1,17 +1,20 @@
-ghost use Rattle.std.specs.Prelude.{◌≡◌, ℕ, true, false, IfOk, OnOk};
+ghost use Rattle.std.specs.Prelude.{◌≡◌, ℕ, ◌<◌, ◌^◌, true, false, IfOk, OnOk, length};
 ghost use Rattle.cfs_model.specs.Machine.{put};
 ghost use Rattle.replay_model.specs.Roll.{named, roll_after};
 ghost use Rattle.ticket_book.specs.Alive.{alive_view};
 
 use cfs_model::{Entry, Memory, Task};
-use pid_table::PidTable;
 use std::alloc::Global;
 
-/// Who is alive: the pids that have begun and not ended.
+/// Room is made for so many further pids at once.
+const FURTHER: usize = 4096;
+
+/// Who is alive: the pids that have begun and not ended. A pid takes a byte, since they are 4194304 at most: each is
+/// looked up where it stands, and most recordings have few thousand.
 #[derive(Drop)]
 pub(crate) struct Alive {
-    /// Of each pid that ever began, whether it hasn't ended since.
-    lives: PidTable<bool>,
+    /// Of each pid, by its number, whether it has begun and not ended since. Those behind the last have never begun.
+    lives: Vec<bool>,
 }
 
 impl Alive {
@@ -20,7 +23,7 @@ impl Alive {
         ensures { IfOk result (λ alive. (pid : ℕ) → alive_view alive pid ≡ named tasks.now pid) }
     {
         let mut alive = Alive {
-            lives: PidTable::new(alloc),
+            lives: Vec::new(alloc),
         };
         for task in tasks {
             alive.begin(task.pid)?;
@@ -32,8 +35,8 @@ impl Alive {
     pub(crate) fn has(&self, pid: u32) -> bool
         ensures { result ≡ alive_view self.now pid }
     {
-        match self.lives.index_of(pid) {
-            Some(row) => self.lives.rows()[row],
+        match self.lives.get(pid as usize) {
+            Some(lives) => *lives,
             None => false,
         }
     }
@@ -53,23 +56,35 @@ impl Alive {
         Ok(())
     }
 
+    #[inline(always)]
     fn begin(&mut self, pid: u32) -> Result<(), Memory>
         ensures { OnOk result ((q : ℕ) → alive_view self.new q ≡ put (alive_view self.old) pid true q) }
     {
-        if let Some(row) = self.lives.index_of(pid) {
-            *self.lives.row_mut(row) = true;
-            return Ok(());
+        let index = pid as usize;
+        self.reach(index)?;
+        self.lives[index] = true;
+        Ok(())
+    }
+
+    /// Lets there be a place for a pid.
+    #[inline(always)]
+    fn reach(&mut self, index: usize) -> Result<(), Memory>
+        requires { index < 2 ^ 32 }
+        ensures same { (q : ℕ) → alive_view self.new q ≡ alive_view self.old q }
+        ensures there { OnOk result (index < length self.new.lives.items) }
+    {
+        if index >= self.lives.len() {
+            self.lives.resize(index + FURTHER, false)?;
         }
-        self.lives.make_room()?;
-        self.lives.add(pid, true);
         Ok(())
     }
 
     fn end(&mut self, pid: u32)
         ensures { (q : ℕ) → alive_view self.new q ≡ put (alive_view self.old) pid false q }
     {
-        if let Some(row) = self.lives.index_of(pid) {
-            *self.lives.row_mut(row) = false;
+        let index = pid as usize;
+        if index < self.lives.len() {
+            self.lives[index] = false;
         }
     }
 }

@@ -1,15 +1,17 @@
 -- What one look at the next claim tells: that nothing is new up to a line, or that claim alone.
 use Rattle.std.proofs.Common.{◌≡◌, ℕ, ◌+◌, ◌<◌, ◌≤◌, List, [], ◌∷◌, ◌++◌, length, get_or, take, drop}
-use Rattle.std.proofs.Common.{zero, suc, inl, inr, sym, ap, ◌∙◌, subst, arith}
+use Rattle.std.proofs.Common.{zero, suc, inl, inr, sym, ap, ◌∙◌, subst, arith, Bool, true, false, eqb, true≢false}
 use Rattle.std.specs.Prelude.{All, pos}
 use Rattle.std.specs.List.{AllPairs}
-use Rattle.std.proofs.lemmas.Bool.{cases_lt}
+use Rattle.std.specs.Option.{option_to_list}
+use Rattle.std.proofs.lemmas.Bool.{cases_lt, eqb-false, eqb-true}
 use Rattle.std.proofs.lemmas.List.{at_drop_more, get_or-drop, get_or-take, get_or_default, length-drop, length-take-le}
 use Rattle.std.proofs.lemmas.List.{take-append-drop}
 use Rattle.cfs_model.specs.declared.claim.Claim.{Claim}
 use Rattle.cfs_model.specs.declared.claim.ClaimSort.TheVariants.{At}
 use Rattle.window_joining.proofs.Firsts.{rise_weak, through_here}
 use Rattle.window_joining.specs.Between.{IsCut, IsThrough}
+use Rattle.window_joining.specs.Look.{told}
 
 -- where as many items stand up to the one line as up to the other, none is between
 pub nothing_cut : {X : Type 0} (f : X → ℕ) (items : List X) (index low line : ℕ) → IsThrough X f items low index
@@ -98,3 +100,21 @@ one_new {X} f items index low line x rise order h passed is on =
     let up = rise index (index + 1) d (omega arith) w in
     let at = here d in
     omega (arith, up, at)))) is on order
+
+-- what the look at the next claim tells, where that stands on the line or beyond it
+pub seen_at : (claims : List Claim) (next low line : ℕ) (claim : Claim) (is_said : Bool)
+    → AllPairs (λ a b. a.line < b.line) claims → low < line → next < length claims
+    → ((k : ℕ) (d : Claim) → k < next → (get_or claims k d).line ≤ low) → claim ≡ get_or claims next claim
+    → line ≤ claim.line → eqb claim.line line ≡ is_said → (is_said ≡ true → (next < length claims)
+    × (claim.line ≡ line)) × IsCut Claim (λ claim. claim.line) low line claims (option_to_list (told is_said claim))
+seen_at claims next low line claim true rise order h passed is beyond e =
+    let on = eqb-true claim.line line e in
+    ((λ _. (h, on)), one_new (λ (x : Claim). x.line) claims next low line claim rise order h passed is on)
+seen_at claims next low line claim false rise order h passed is beyond e =
+    let apart = eqb-false claim.line line e in (
+      (λ said. absurd (true≢false (sym said))),
+      nothing_new (λ (x : Claim). x.line) claims next low line rise order (omega (arith, h)) passed
+          (λ d h. (
+          let same = ap (λ (x : Claim). x.line) (get_or_default claims next d claim h ∙ sym is) in
+          omega (arith, same, beyond, apart))),
+    )

@@ -42,7 +42,7 @@ impl Joining {
     ghost use Rattle.window_joining.specs.Joining.{HasJoined, IsHeadOf, IsHeld, StandBehind, is_refused};
     ghost use Rattle.window_joining.specs.Joining.{joined_answer};
     ghost use Rattle.window_joining.specs.Joining.{joined_events, rank_of};
-    ghost use Rattle.window_joining.specs.Look.{IsGlance, news_of};
+    ghost use Rattle.window_joining.specs.Look.{IsGlance, news_of, told};
     ghost use Rattle.window_joining.specs.News.{AreRising, IsBehind};
     ghost use Rattle.window_joining.specs.Passing.{Passes};
     ghost use Rattle.window_joining.specs.Policies.{AreUsual, policies_view};
@@ -118,25 +118,25 @@ impl Joining {
         ensures line { OnOk result (self.new.line ≡ event.now.line) }
     {
         match self.look(head, event, claims, nices, charges) {
-            Look::Nothing => self.add_usual(head, event, None, self.hints.claims, window),
-            Look::OneClaim => {
-                let next = self.hints.claims;
-                self.add_usual(head, event, Some(claims[next]), next + 1, window)
-            }
+            Look::Clear {
+                claim,
+                is_said,
+                passed,
+            } => self.add_usual(head, event, claim, is_said, passed, window),
             Look::Unclear => self.add_by_lists(head, event, claims, nices, charges, window),
         }
     }
 
     /// What is new up to an event's line, as far as a look tells.
     #[inline(always)]
-    fn look(
+    fn look<'a>(
         &self,
         head: &Companion,
         event: &Entry,
-        claims: &[Claim],
+        claims: &'a [Claim],
         nices: &[NiceLine],
         charges: &[ChargeLine],
-    ) -> Look
+    ) -> Look<'a>
         requires later { self.now.line < event.now.line }
         requires claims_rise { AllPairs (λ a b. a.line < b.line) claims.now }
         ensures { IsGlance self.now.policies self.now.line (record {
@@ -160,26 +160,20 @@ impl Joining {
         &mut self,
         head: &Companion,
         event: &Entry,
-        claim: Option<Claim>,
+        claim: &Claim,
+        is_said: bool,
         claims: usize,
         window: &mut Window,
     ) -> Result<(), Memory>
         requires usual { AreUsual self.old.policies }
-        requires on_line { IfSome claim (λ claim. claim.line ≡ event.now.line) }
+        requires on_line { IfSome (told is_said claim.now) (λ claim. claim.line ≡ event.now.line) }
         ensures said { OnOk result (window_view window.new ≡ window_view window.old
-            ++ with_claim (option_to_list claim) [] []
+            ++ with_claim (option_to_list (told is_said claim.now)) [] []
             (λ other. policy_told [] (λ line. policies_view self.old.policies) other.line other.act) event.now ∷ []) }
-        ensures passed { OnOk result (Passes head.now.cpus head.now.start (news_of claim) event.now self.old self.new) }
+        ensures passed { OnOk result (Passes head.now.cpus head.now.start (news_of (told is_said claim.now)) event.now
+            self.old self.new) }
     {
-        window.add(
-            event,
-            Saying {
-                claim,
-                nice: None,
-                charge: None,
-                policy: Policy::Normal,
-            },
-        )?;
+        window.add_claimed(event, claim, is_said)?;
         note_outside(&mut self.outside, event, head.cpus());
         note_late(&mut self.late, self.line, event, head.start());
         self.line = event.line;

@@ -6,13 +6,13 @@ pub returns : goal.returns
 returns g c =
     let hearing = c.in_ok-heard.heard in
     let heard = c.in_ok-heard.ensures in
-    let written = c.write_report.ensures in
+    let written = c.write_in_pieces.ensures in
     record {
-      answered = answered_as _ _ _ c.write_report.result hearing.outcome hearing.tells_charges heard.outcome
+      answered = answered_as _ _ _ c.write_in_pieces.result hearing.outcome hearing.tells_charges heard.outcome
           written.whole written.status;
-      reads = reads_both_on _ _ hearing c.write_report.result heard.reads written.fault;
+      reads = reads_both_on _ _ hearing c.write_in_pieces.result heard.reads written.fault;
       written = written.written;
       write = written.write;
       front = λ e. (hearing.outcome, hearing.tells_charges, heard.outcome, written.front e);
-      unwritten = unwritten_as c.write_report.result written.fault written.unwritten;
+      unwritten = unwritten_as c.write_in_pieces.result written.fault written.unwritten;
     }

@@ -1,5 +1,12 @@
+use Rattle.std.proofs.Common.{refl, [], ◌∷◌}
 use Rattle.sched_event.proofs.UsualFields.{switch_stands}
 use Rattle.sched_event.proofs.usual.switch_front.Goals as goal
+
+pub prio-requires : goal.prio-requires
+prio-requires c = record { end = 32; more = 112 ∷ []; no_digit = refl; parts = refl }
+
+pub prio-requires-2 : goal.prio-requires-2
+prio-requires-2 c = record { end = 10; more = []; no_digit = refl; parts = refl }
 
 pub returns : goal.returns
 returns c =

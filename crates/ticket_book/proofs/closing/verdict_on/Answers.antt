@@ -1,4 +1,4 @@
-use Rattle.std.proofs.Common.{◌≡◌, length, subst, ◌≤◌}
+use Rattle.std.proofs.Common.{length, subst, ◌≤◌}
 use Rattle.cfs_model.specs.Limits.{greatest_setting}
 use Rattle.replay_model.specs.Summary.{tasks_of_run}
 use Rattle.sched_record.specs.Record.{record_view}

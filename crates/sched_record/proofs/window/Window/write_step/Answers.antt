@@ -1,18 +1,16 @@
 -- What is kept of a line tells what is said there: nothing, or a claim.
-use Rattle.std.proofs.Common.{◌<◌, Option, Some, None, ap, ◌∙◌, length, arith}
+use Rattle.std.proofs.Common.{◌<◌, Option, None, ap, ◌∙◌, length, arith}
 use Rattle.cfs_model.specs.declared.claim.Claim.{Claim}
 use Rattle.cfs_model.specs.declared.policy.Policy.TheVariants.{Normal}
 use Rattle.replay_model.specs.StepAt.{step_at}
-use Rattle.replay_model.specs.declared.step.Step.{Step}
-use Rattle.sched_record.specs.Sayings.{nothing_said}
+use Rattle.sched_record.specs.Sayings.{alone_of}
 use Rattle.sched_record.specs.declared.window.Saying.{Saying}
 use Rattle.sched_record.proofs.Windows.{said_length}
 use Rattle.sched_record.proofs.WindowIndices.{said_is, stands_as}
 use Rattle.sched_record.proofs.window.Window.write_step.Goals as goal
-use Rattle.sched_record.proofs.window.Window.write_step.Goals.{in-Nothing, in-OneClaim}
 
-pub said_at-requires : goal.said_at-requires
-said_at-requires c =
+pub said_at-said-requires : goal.said_at-said-requires
+said_at-said-requires c =
     let self = c.args.self.now in
     let n = said_length self.events.items self.sayings self.paired in
     let p = self.paired in
@@ -44,24 +42,15 @@ returns c here stands =
     let event = c.index.result.now in
     let usual : Option Claim → Saying =
     λ claim. record { claim = claim; nice = None; charge = None; policy = Normal } in
-    let with_claim : Option Claim → Step =
-    λ claim. step_at c.args.cpu (record {
+    let alone : Option Claim = alone_of c.said_at-said.result in
+    c.write_usual.ensures
+    ∙ ap (λ claim. step_at c.args.cpu (record {
       entry = event;
       claim = claim;
       nice = None;
       charge = None;
       policy = Normal;
-    }) in
-    elim c.match-said_at.branch [
-      | in-Nothing w ↦
-          c.write_usual.ensures ∙ ap (λ (step : Step). with_claim step.claim) w.step-is
-          ∙ ap (step_at c.args.cpu) (said_is self.events.items self.sayings c.args.index event nothing_said here
-          self.paired there c.index.ensures
-          (stands_as self.sayings c.args.index nothing_said within w.in-Nothing.ensures) stands)
-      | in-OneClaim w ↦
-          c.write_usual.ensures ∙ ap (λ (step : Step). with_claim step.claim) w.step-is
-          ∙ ap (step_at c.args.cpu) (said_is self.events.items self.sayings c.args.index event
-          (usual (Some w.in-OneClaim.claim)) here self.paired there c.index.ensures
-          (stands_as self.sayings c.args.index (usual (Some w.in-OneClaim.claim)) within w.in-OneClaim.ensures)
-          stands)
-    ]
+    })) c.claim-step.ensures
+    ∙ ap (step_at c.args.cpu) (said_is self.events.items self.sayings c.args.index event (usual alone) here self.paired
+    there c.index.ensures (stands_as self.sayings c.args.index (usual alone) within (λ saying is.
+    c.is_more.ensures c.if-is_more.false saying (c.said_at-said.ensures saying is))) stands)

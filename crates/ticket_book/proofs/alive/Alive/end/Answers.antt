@@ -1,13 +1,15 @@
-use Rattle.std.proofs.Common.{false, refl, sym, ◌∙◌}
-use Rattle.pid_table.specs.Rows.{with_row}
-use Rattle.ticket_book.proofs.Lives.{nothing_put, row_put}
+use Rattle.std.proofs.Common.{false, length, ◌<◌, ◌≤◌, arith}
+use Rattle.ticket_book.proofs.Lives.{place_put, nothing_put}
 use Rattle.ticket_book.proofs.alive.Alive.end.Goals as goal
 
-pub returns-in-Some : goal.returns-in-Some
-returns-in-Some c =
-    let t = c.args.self.now.lives in
-    row_put t (with_row t c.in-Some.row false) c.index_of.ensures.sound c.in-Some.row false refl refl c.args.pid
-    (sym c.index_of.ensures.index ∙ c.in-Some.is)
+pub returns-then-index-len : goal.returns-then-index-len
+returns-then-index-len c =
+    let lives = c.args.self.now.lives.items in
+    let within : c.args.pid < length lives = omega (arith, c.if-index-len.true, c.len.ensures) in
+    place_put lives c.args.pid false within
 
-pub returns-in_default : goal.returns-in_default
-returns-in_default c = nothing_put c.args.self.now.lives c.args.pid (sym c.index_of.ensures.index ∙ c.in_default.is)
+pub returns-else-index-len : goal.returns-else-index-len
+returns-else-index-len c =
+    let lives = c.args.self.now.lives.items in
+    let beyond : length lives ≤ c.args.pid = omega (arith, c.if-index-len.false, c.len.ensures) in
+    nothing_put lives c.args.pid beyond

@@ -1,13 +1,14 @@
-use Rattle.std.proofs.Common.{take, ◌++◌, ◌+◌, ◌∷◌, [], ◌≡◌, ap, sym, ◌∙◌}
+use Rattle.std.proofs.Common.{take, length, ◌++◌, ◌+◌, ◌∷◌, [], ◌≡◌, ap, sym, ◌∙◌, arith}
 use Rattle.std.proofs.lemmas.List.{take_more}
 use Rattle.replay_model.specs.Roll.{named}
 use Rattle.ticket_book.specs.Alive.{alive_view}
 use Rattle.ticket_book.proofs.Living.{one_named}
-use Rattle.ticket_book.proofs.Lives.{nobody}
+use Rattle.ticket_book.proofs.Lives.{without_place}
 use Rattle.ticket_book.proofs.alive.Alive.new.Goals as goal
 
 pub loop-task-init : goal.loop-task-init
-loop-task-init c = λ q. nobody c.new.result c.new.ensures.pids q
+loop-task-init c = λ q.
+    without_place c.new.result.items q (omega (arith, ap length c.new.ensures.items))
 
 pub loop-task-preserved : goal.loop-task-preserved
 loop-task-preserved c = λ q.

@@ -2,7 +2,7 @@ use Rattle.std.proofs.Common.{w64, rules}
 use Rattle.std.proofs.lemmas.Int.{to_z-of_z}
 use mir.Val.{SFits}
 use Rattle.companion_file.proofs.UsualLines.{fields_stand}
-use Rattle.companion_file.proofs.usual_line.usual_fields.Goals as goal
+use Rattle.companion_file.proofs.usual_line.any_fields.Goals as goal
 
 pub returns : goal.returns
 returns c =

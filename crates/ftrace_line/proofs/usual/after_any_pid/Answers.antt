@@ -2,7 +2,7 @@ use Rattle.text_parts.specs.Numerals.{is_digit}
 use Rattle.text_parts.specs.Pieces.{is_space}
 use Rattle.text_parts.proofs.Runs.{run_taken}
 use Rattle.ftrace_line.proofs.Columns.{pid_anywhere}
-use Rattle.ftrace_line.proofs.usual.after_pid.Goals as goal
+use Rattle.ftrace_line.proofs.usual.after_any_pid.Goals as goal
 
 pub returns : goal.returns
 returns c =

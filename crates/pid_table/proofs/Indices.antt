@@ -14,8 +14,10 @@ use Rattle.std.proofs.lemmas.List.{length_push}
 use Rattle.std.proofs.lemmas.List.Elements.{All-push}
 use Rattle.std.proofs.lemmas.List.Folds.{list_any_none}
 use Rattle.std.proofs.lemmas.Map.Keys.{IsDistinct-push}
+use Rattle.pid_table.specs.Marks.{AreMarked}
 use Rattle.pid_table.specs.Rows.{index_in}
 use Rattle.pid_table.specs.Places.{AreLevels, IsTable, place_of}
+use Rattle.pid_table.specs.declared.pid_marks.PidMarks.{PidMarks}
 use Rattle.pid_table.specs.declared.pid_places.PidPlaces.{PidPlaces}
 
 -- the pid stands at its index
@@ -85,29 +87,32 @@ differ pid other apart =
 
 module _ {V : Type 0} where
   -- a table without pids
-  pub no_pid : (pids : List ℕ) (rows : List V) (places : PidPlaces) → pids ≡ [] → rows ≡ [] → AreLevels places
-      → IsTable pids rows places
-  no_pid pids rows places no_pids no_rows levels =
-      subst (λ pids. IsTable pids rows places) (sym no_pids)
-      (subst (λ rows. IsTable [] rows places) (sym no_rows)
+  pub no_pid : (pids : List ℕ) (rows : List V) (marks : PidMarks) (places : PidPlaces) → pids ≡ [] → rows ≡ []
+      → AreLevels places → IsTable pids rows marks places
+  no_pid pids rows marks places no_pids no_rows levels =
+      subst (λ pids. IsTable pids rows marks places) (sym no_pids)
+      (subst (λ rows. IsTable [] rows marks places) (sym no_rows)
       (record {
         one_each = refl;
         apart = IsDistinct-from_AllPairs Decides-eqb [] (λ i k d h w. absurd (omega (arith, h, w)));
         levels = levels;
+        marked = λ i d h. absurd (omega (arith, h));
         placed = λ i d h. absurd (omega (arith, h));
       }))
 
   -- one pid more, with its row and its place
-  pub one_more : (pids : List ℕ) (rows : List V) (old new : PidPlaces) (pid : ℕ) (row : V) → IsTable pids rows old
-      → index_in pids pid ≡ None → AreLevels new → 0 < place_of new pid
+  pub one_more : (pids : List ℕ) (rows : List V) (before after : PidMarks) (old new : PidPlaces) (pid : ℕ) (row : V)
+      → IsTable pids rows before old → index_in pids pid ≡ None
+      → AreMarked after (pids ++ pid ∷ []) → AreLevels new → 0 < place_of new pid
       → ((other : ℕ) → 0 < place_of old other → 0 < place_of new other)
-      → IsTable (pids ++ pid ∷ []) (rows ++ row ∷ []) new
-  one_more pids rows old new pid row table none levels here kept = record {
+      → IsTable (pids ++ pid ∷ []) (rows ++ row ∷ []) after new
+  one_more pids rows before after old new pid row table none marked levels here kept = record {
     one_each = length_push rows row ∙ ap (λ n. n + 1) table.one_each ∙ sym (length_push pids pid);
     apart = IsDistinct-push nat_eq_equiv pids pid table.apart
         (list_any_none (nat_eq pid) pids
         (λ i d h. differ pid (get_or pids i d) (λ same. pid_nowhere pids pid none i d h (sym same))));
     levels = levels;
+    marked = marked;
     placed = All-push (λ other. 0 < place_of new other) pids pid
         (λ i d h. kept (get_or pids i d) (table.placed i d h)) here;
   }

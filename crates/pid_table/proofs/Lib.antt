@@ -1,3 +1,4 @@
 pub mod Indices
 pub mod Changes
 mod Nodes
+mod Marks

@@ -1,3 +1,4 @@
 pub mod Rows
 pub mod Lends
 pub mod Places
+pub mod Marks

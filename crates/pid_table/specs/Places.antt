@@ -3,6 +3,8 @@ use Rattle.std.specs.Prelude.{◌≡◌, ◌≢◌, ◌≤◌, ◌<◌, ◌+◌,
 use Rattle.std.specs.Prelude.{All, length, nat_eq, nat_le, nat_lt, min, slice_index_or, count_by, vec_capacity}
 use Rattle.std.specs.Prelude.{if◌then◌else◌}
 use Rattle.std.specs.List.{IsDistinct}
+use Rattle.pid_table.specs.Marks.{AreMarked}
+use Rattle.pid_table.specs.declared.pid_marks.PidMarks.{PidMarks}
 use Rattle.pid_table.specs.declared.pid_places.PidPlaces.{PidPlaces}
 use Rattle.pid_table.specs.declared.pid_places.TheConstants.{TOPS, BRANCH, LEAF}
 
@@ -45,10 +47,10 @@ abbrev pub top_index : ℕ → ℕ
 top_index pid = min (pid / 1024) 4096
 
 abbrev pub branch_index : ℕ → ℕ → ℕ
-branch_index branch pid = branch + pid / 8 % 128
+branch_index branch pid = branch + pid / 32 % 32
 
 abbrev pub leaf_index : ℕ → ℕ → ℕ
-leaf_index leaf pid = leaf + pid % 8
+leaf_index leaf pid = leaf + pid % 32
 
 -- where a pid's row is looked for, counted from 1; 0 if it has none
 abbrev pub place_in : List ℕ → List ℕ → List ℕ → ℕ → ℕ
@@ -67,11 +69,12 @@ has_room places =
     && (nat_le (length places.branches.items + BRANCH) (vec_capacity places.branches)
     && nat_le (length places.leaves.items + LEAF) (vec_capacity places.leaves))))
 
--- each pid of a table has one row, and a place at which it is looked for
-pub record IsTable {V : Type 0} (pids : List ℕ) (rows : List V) (places : PidPlaces) : Type 0 where
+-- each pid of a table has one row and a mark, and a place at which it is looked for
+pub record IsTable {V : Type 0} (pids : List ℕ) (rows : List V) (marks : PidMarks) (places : PidPlaces) : Type 0 where
   pub one_each : length rows ≡ length pids
   pub apart : IsDistinct nat_eq pids
   pub levels : AreLevels places
+  pub marked : AreMarked marks pids
   pub placed : All (λ pid. 0 < place_of places pid) pids
 
 -- how many more surely fit without memory: one, where the lists of pids and of rows have room too, or none

@@ -1,6 +1,7 @@
 //! Rows by pid, in the order in which the pids were named.
 #![tactic(auto)]
 
+mod pid_marks;
 mod pid_places;
 mod pid_table;
 

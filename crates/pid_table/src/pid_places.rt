@@ -9,11 +9,11 @@ use std::fmt::{Debug, Formatter, Write};
 /// How many words the first level has: one for each 1,024 pids, and the last for all pids from 2^22 on.
 const TOPS: usize = 4097;
 
-/// How many words a branch has: one for each 8 pids.
-const BRANCH: usize = 128;
+/// How many words a branch has: one for each 32 pids.
+const BRANCH: usize = 32;
 
 /// How many words a leaf has: one for each pid.
-const LEAF: usize = 8;
+const LEAF: usize = 32;
 
 /// Where each pid's row is looked for: three levels of words, by the bits of the pid. A word of an upper level is the
 /// index at which a node of the next one begins. The first node of a level is empty, so a pid without a row leads to a
@@ -102,7 +102,7 @@ fn branch_index(branch: usize, pid: u32) -> usize
     requires { branch < 2 ^ 32 }
     ensures { result ≡ branch_index branch pid }
 {
-    branch + (pid / 8 % 128) as usize
+    branch + (pid / 32 % 32) as usize
 }
 
 /// Which word of the leaves is a pid's, where its leaf begins at an index.
@@ -111,7 +111,7 @@ fn leaf_index(leaf: usize, pid: u32) -> usize
     requires { leaf < 2 ^ 32 }
     ensures { result ≡ leaf_index leaf pid }
 {
-    leaf + (pid % 8) as usize
+    leaf + (pid % 32) as usize
 }
 
 /// A word of a list, 0 behind its last.

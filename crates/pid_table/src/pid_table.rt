@@ -1,7 +1,9 @@
 ghost use Rattle.std.specs.Prelude.{◌≡◌, ◌∷◌, ◌++◌, ◌<◌, [], None, Some, true, IfSome, OnOk, length, slice_get};
 ghost use Rattle.std.specs.Borrow.{sem};
+ghost use Rattle.pid_table.specs.Marks.{AreMarked};
 ghost use Rattle.pid_table.specs.Rows.{AreSound, index_in};
 
+use crate::pid_marks::PidMarks;
 use crate::pid_places::PidPlaces;
 use std::alloc::{AllocError, Global};
 use std::marker::Model;
@@ -12,6 +14,8 @@ use std::marker::Model;
 pub struct PidTable<V> {
     pids: Vec<u32>,
     rows: Vec<V>,
+    /// Of the pids that stand here: most that don't are told by these.
+    marks: PidMarks,
     /// Where the row of each pid is looked for.
     places: PidPlaces,
 }
@@ -31,7 +35,7 @@ impl<V> Model for PidTable<V> {
       room = room_beside t.places (vec_capacity t.pids - vec_len t.pids) (vec_capacity t.rows - vec_len t.rows);
     } };
 
-    ghost invariant = { λ t. IsTable t.pids.items t.rows.items t.places };
+    ghost invariant = { λ t. IsTable t.pids.items t.rows.items t.marks t.places };
 }
 
 impl<V> PidTable<V> {
@@ -45,6 +49,7 @@ impl<V> PidTable<V> {
         Self {
             pids: Vec::new(alloc),
             rows: Vec::new(alloc),
+            marks: PidMarks::new(alloc),
             places: PidPlaces::new(alloc),
         }
     }
@@ -76,6 +81,19 @@ impl<V> PidTable<V> {
     /// Where the row of a pid is, if it has one.
     #[inline(always)]
     pub fn index_of(&self, pid: u32) -> Option<usize>
+        ensures index { result ≡ index_in self.now.pids pid }
+        ensures within { IfSome result (λ index. index < length self.now.rows) }
+        ensures sound { AreSound self.now }
+    {
+        if !self.marks.may_have(pid) {
+            return None;
+        }
+        self.index_by_place(pid)
+    }
+
+    /// The same by the pid's place, whether it is marked or not.
+    #[inline(always)]
+    fn index_by_place(&self, pid: u32) -> Option<usize>
         ensures index { result ≡ index_in self.now.pids pid }
         ensures within { IfSome result (λ index. index < length self.now.rows) }
         ensures sound { AreSound self.now }
@@ -153,6 +171,7 @@ impl<V> PidTable<V> {
         ensures rows { self.new.rows ≡ self.old.rows }
         ensures sound { AreSound self.new }
     {
+        make_marks(&mut self.marks, &self.pids)?;
         self.places.make_room()?;
         self.pids.reserve(1)?;
         self.rows.reserve(1)
@@ -168,9 +187,22 @@ impl<V> PidTable<V> {
         ensures rows { self.new.rows ≡ self.old.rows ++ row ∷ [] }
         ensures sound { AreSound self.new }
     {
+        self.marks.mark(pid);
         self.pids.push_reserved(pid);
         self.rows.push_reserved(row);
         let place = self.pids.len().min(u32::MAX as usize);
         self.places.put(pid, place as u32);
     }
+}
+
+/// Makes room for marks, where these pids are those that have one. New marks have no pid, so they are for a table that
+/// has no row.
+fn make_marks(marks: &mut PidMarks, pids: &[u32]) -> Result<(), AllocError>
+    requires { AreMarked marks.old pids.now }
+    ensures { AreMarked marks.new pids.now }
+{
+    if pids.is_empty() {
+        return marks.make_room();
+    }
+    Ok(())
 }

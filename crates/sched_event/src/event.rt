@@ -76,28 +76,42 @@ fn is_runnable(state: &[u8]) -> bool
     matches!(state, [b'R', ..])
 }
 
-/// How a task in this state leaves its processor. Nearly all states are a letter, or are put back while they run.
+/// How a task in this state leaves its processor. Nearly all states have a letter or two.
 #[inline(always)]
 fn way_of(state: &[u8]) -> Way
     ensures { result ≡ way_of state.now }
 {
-    match state {
-        [letter] => way_by_letter(*letter),
-        [b'R', b'+'] => Way::Stays,
-        _ => way_by_letters(state),
+    if state.is_empty() || state.len() > 2 {
+        return way_by_letters(state);
+    }
+    way_by_ends(state[0], state[state.len() - 1])
+}
+
+/// The same for a state of one letter or two, of which these are the first and the last. Nobody could guess what they
+/// are, so no branch is made of it.
+#[inline(always)]
+fn way_by_ends(first: u8, last: u8) -> Way
+    ensures one { first ≡ last → result ≡ way_of (first ∷ []) }
+    ensures two { result ≡ way_of (first ∷ last ∷ []) }
+{
+    let put_back = (first == b'+') | (last == b'+');
+    let gone = is_end(first) | is_end(last);
+    let runnable = first == b'R';
+    if put_back | (runnable & !gone) {
+        Way::Stays
+    } else if gone {
+        Way::Ends
+    } else {
+        Way::Sleeps
     }
 }
 
-/// The same for a state of one letter.
+/// Whether a letter is that of a task which is gone.
 #[inline(always)]
-fn way_by_letter(letter: u8) -> Way
-    ensures { result ≡ way_of (letter ∷ []) }
+fn is_end(letter: u8) -> bool
+    ensures { result ≡ is_gone (letter ∷ []) }
 {
-    match letter {
-        b'+' | b'R' => Way::Stays,
-        b'X' | b'Z' | b'x' => Way::Ends,
-        _ => Way::Sleeps,
-    }
+    (letter == b'X') | (letter == b'Z') | (letter == b'x')
 }
 
 /// The same for any letters.

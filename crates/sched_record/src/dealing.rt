@@ -277,21 +277,33 @@ pub(crate) fn write_usual(event: &Entry, cpu: u32, step: &mut Step)
             };
         }
         Act::Wake { pid, nice, .. } => step.deed = Deed::Wake { pid, nice },
-        Act::Born { .. } | Act::Shift { .. } => write_rare(event.act, cpu, step),
+        Act::Born { pid, nice, .. } => {
+            step.deed = Deed::Born {
+                pid,
+                nice,
+                policy: Policy::Normal,
+            };
+        }
+        Act::Shift {
+            orig,
+            dest,
+            pid,
+            nice,
+        } => {
+            let leaves = orig == cpu;
+            if leaves {
+                step.deed = Deed::Leave { pid, nice, dest };
+                step.claim = None;
+            } else {
+                step.deed = Deed::Arrive {
+                    pid,
+                    nice,
+                    orig,
+                    policy: Policy::Normal,
+                };
+            }
+        }
     }
-}
-
-/// Writes the deed of a birth or a migration, and takes a claim that isn't the processor's. Out of line, as there are
-/// few.
-#[inline(never)]
-fn write_rare(act: Act, cpu: u32, step: &mut Step)
-    ensures { step.new ≡ record step.old {
-      deed = deed_here cpu Normal act;
-      claim = claim_for (deed_here cpu Normal act) step.old.claim;
-    } }
-{
-    step.deed = deed_at(act, Policy::Normal, cpu);
-    step.claim = claim_for(&step.deed, step.claim);
 }
 
 /// What an event does at a processor that it touches, with the policy of who is born or comes.

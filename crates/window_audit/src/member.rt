@@ -2,7 +2,7 @@ ghost use Rattle.std.specs.Prelude.{◌≡◌, ◌+◌, ◌^◌, ◌<◌, [], fa
 ghost use Rattle.replay_model.specs.Cut.{steps_at};
 ghost use Rattle.replay_model.specs.Noted.{PageView};
 ghost use Rattle.queue_replay.specs.Windowed.{GoesThrough, windowed_view};
-ghost use Rattle.sched_record.specs.Window.{window_view};
+ghost use Rattle.sched_record.specs.Window.{AreTouching, window_view};
 ghost use Rattle.window_audit.specs.Member.{IsThroughWindow, replay_of};
 
 use cfs_model::Memory;
@@ -16,7 +16,8 @@ use std::slice::from_ref;
 #[derive(Drop)]
 pub(crate) struct Member {
     pub replay: WindowedReplay,
-    /// Its steps of the window at hand, where that keeps no indices of its events.
+    /// Its steps of the window at hand, where that keeps no indices of its events. Else the first is each of them in
+    /// turn.
     pub steps: Vec<Step>,
     /// Whether a growth was refused in it.
     pub wants_memory: bool,
@@ -70,12 +71,29 @@ impl Member {
         let [first, ..] = indices else {
             return Ok(());
         };
-        let mut step = window.step(*first, cpu);
-        for index in indices {
-            window.write_step(*index, cpu, &mut step);
-            self.replay.go_through(from_ref(&step))?;
+        if self.steps.is_empty() {
+            // Taken apart: the check knows the types of what is named.
+            let Step {
+                line,
+                time,
+                deed,
+                claim,
+                nice,
+                charge,
+            } = window.step(*first, cpu);
+            push(
+                &mut self.steps,
+                Step {
+                    line,
+                    time,
+                    deed,
+                    claim,
+                    nice,
+                    charge,
+                },
+            )?;
         }
-        Ok(())
+        replay_each(&mut self.replay, window, indices, &mut self.steps[0])
     }
 
     /// The same where the window keeps no indices: its steps are dealt first.
@@ -106,6 +124,36 @@ impl Member {
     {
         self.replay.forget();
     }
+}
+
+/// Adds an item behind the others of a list.
+fn push<T: Drop>(list: &mut Vec<T>, item: T) -> Result<(), Memory>
+    ensures { OnOk result (0 < length list.new.items) }
+{
+    list.push(item)?;
+    Ok(())
+}
+
+/// Replays the steps of a window's events at these indices, each in the place of the one before.
+#[inline(always)]
+fn replay_each(
+    replay: &mut WindowedReplay,
+    window: &Window,
+    indices: &[u32],
+    step: &mut Step,
+) -> Result<(), Memory>
+    requires touching { AreTouching (windowed_view replay.old).cpu (window_view window.now) indices.now }
+    requires few { (windowed_view replay.old).made
+        + length (steps_at (windowed_view replay.old).cpu (window_view window.now)) < 2 ^ 64 }
+    ensures { OnOk result (GoesThrough (windowed_view replay.old)
+        (steps_at (windowed_view replay.old).cpu (window_view window.now)) (windowed_view replay.new)) }
+{
+    let cpu = replay.cpu();
+    for index in indices {
+        window.write_step(*index, cpu, step);
+        replay.go_through(from_ref(step))?;
+    }
+    Ok(())
 }
 
 impl Paged for Member {

@@ -14,8 +14,8 @@ const BITS: u32 = 64;
 /// How many words have all bits.
 const WORDS: usize = (MARKED / BITS) as usize;
 
-/// Which pids were marked, in 2 KiB, which stay in the cache. Pids that have the same low bits have one bit here, so once
-/// a table has many of them a bit says little.
+/// Which pids were marked, in 2 KiB, which stay in the cache. Pids that have the same low bits have one bit here. So
+/// once a table has many pids, a bit says little.
 #[derive(Drop)]
 pub(crate) struct PidMarks {
     /// None before room is made.

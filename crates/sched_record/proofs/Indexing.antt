@@ -131,7 +131,7 @@ said_found cpu events sayings d paired =
     said_from cpu 0 (λ index. get_or (said_beside events sayings) index d) events sayings paired
     (λ k e h. ap (λ n. get_or (said_beside events sayings) n d) (omega arith)
     ∙ get_or_default (said_beside events sayings) k d e
-    (let n = said_length events sayings paired in omega (arith, h, n)))
+    (let n = said_length events sayings (omega arith) in omega (arith, h, n)))
 
 within_from : (cpu n : ℕ) (events : List Entry) → All (λ index. index < n + length events) (indices_from cpu n events)
 within_from cpu n [] = All-nil (λ index. index < n + 0)

@@ -18,7 +18,8 @@ pub mod SpanIndex
 pub mod Splits
 pub mod Straying
 pub mod Telling
-pub mod Walk
+pub mod Waiting
+mod Walk
 pub mod Births
 pub mod SpanEnds
 pub mod PolicyTold

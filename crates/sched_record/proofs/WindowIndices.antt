@@ -1,8 +1,8 @@
 -- Dealing a window by the indices of the events that touch a processor.
-use Rattle.std.proofs.Common.{◌≡◌, ℕ, zero, suc, ◌+◌, ◌<◌, List, [], ◌∷◌, ◌++◌, length, get_or, map, take, refl}
+use Rattle.std.proofs.Common.{◌≡◌, ℕ, zero, suc, ◌+◌, ◌<◌, ◌≤◌, List, [], ◌∷◌, ◌++◌, length, get_or, map, take, refl}
 use Rattle.std.proofs.Common.{sym, ap, subst, ◌∙◌, All, arith}
 use Rattle.std.specs.Prelude.{filter}
-use Rattle.std.proofs.lemmas.List.{get_or-map, get_or_default, length-map, take_more}
+use Rattle.std.proofs.lemmas.List.{get_or-map, get_or_default, length-map, length-take-le, take_more}
 use Rattle.std.proofs.lemmas.List.Elements.{All-get_or}
 use Rattle.cfs_model.specs.Claimed.{Claimed}
 use Rattle.cfs_model.specs.declared.act.Entry.{Entry}
@@ -13,7 +13,7 @@ use Rattle.sched_record.specs.Indices.{indices_touching}
 use Rattle.sched_record.specs.Window.{AreTouching, said_beside, said_of}
 use Rattle.sched_record.specs.declared.window.Saying.{Saying}
 use Rattle.sched_record.proofs.Indexing.{indices_within, said_found}
-use Rattle.sched_record.proofs.Windows.{said_here, said_length}
+use Rattle.sched_record.proofs.Windows.{said_here, said_length, same_said}
 
 claimed_there : (said : List Claimed) (i : ℕ) → i < length said → (here : Claimed) × (here ≡ get_or said i here)
 claimed_there [] i lt = absurd (omega arith)
@@ -22,7 +22,7 @@ claimed_there (here ∷ said) (suc i) lt = claimed_there said i (omega arith)
 
 -- what is said of the event at an index is what stands there
 pub said_is : (events : List Entry) (sayings : List Saying) (i : ℕ) (event : Entry) (saying : Saying) (here : Claimed)
-    → length sayings ≡ length events → i < length events → event ≡ get_or events i event
+    → length sayings ≤ length events → i < length sayings → event ≡ get_or events i event
     → saying ≡ get_or sayings i saying → here ≡ get_or (said_beside events sayings) i here
     → said_of event saying ≡ here
 said_is events sayings i event saying here paired lt is there stands =
@@ -38,24 +38,36 @@ stands_as sayings i saying lt known =
 
 -- the indices of the events that touch a processor
 module _ (cpu : ℕ) (events : List Entry) (sayings : List Saying) (indices : List ℕ)
-    (paired : length sayings ≡ length events) (are : indices ≡ indices_touching cpu events) where
+    (paired : length sayings ≤ length events)
+    (are : indices ≡ indices_touching cpu (take (length sayings) events)) where
   abbrev said : List Claimed
   said = said_beside events sayings
+
+  -- those of which it is told what is said
+  abbrev told : List Entry
+  told = take (length sayings) events
+
+  as_told : length sayings ≡ length told
+  as_told = sym (length-take-le (length sayings) events paired)
 
   abbrev touching : List Claimed
   touching = filter (touches cpu) said
 
   -- what is said at them
   found : (d : Claimed) → map (λ index. get_or said index d) indices ≡ touching
-  found d = ap (map (λ index. get_or said index d)) are ∙ said_found cpu events sayings d paired
+  found d =
+      ap (map (λ index. get_or said index d)) are
+      ∙ ap (λ xs. map (λ index. get_or xs index d) (indices_touching cpu told)) (sym (same_said events sayings))
+      ∙ said_found cpu told sayings d as_told ∙ ap (filter (touches cpu)) (same_said events sayings)
 
   -- each is one among the events
   below : (k : ℕ) → k < length indices → get_or indices k 0 < length said
   below k h =
-      let in_events = All-get_or (λ index. index < length events) indices k 0 h
-      (subst (All (λ index. index < length events)) (sym are) (indices_within cpu events)) in
+      let in_events = All-get_or (λ index. index < length told) indices k 0 h
+      (subst (All (λ index. index < length told)) (sym are) (indices_within cpu told)) in
       let size = said_length events sayings paired in
-      omega (arith, in_events, size)
+      let n = as_told in
+      omega (arith, in_events, size, n)
 
   -- there are as many as indices
   count : (d : Claimed) → length touching ≡ length indices

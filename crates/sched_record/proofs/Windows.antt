@@ -16,36 +16,85 @@ use Rattle.replay_model.specs.declared.step.Step.{Step}
 use Rattle.sched_record.specs.Window.{said_beside, said_of}
 use Rattle.sched_record.specs.declared.window.Saying.{Saying}
 
--- one more event behind as many as there are sayings
-pub said_more : (events : List Entry) (sayings : List Saying) (event : Entry) (saying : Saying)
-    → length sayings ≡ length events
-    → said_beside (events ++ event ∷ []) (sayings ++ saying ∷ []) ≡ said_beside events sayings ++ said_of event saying
-    ∷ []
-said_more [] [] event saying e = refl
-said_more [] (s ∷ sayings) event saying e = absurd (omega arith)
-said_more (x ∷ events) [] event saying e = absurd (omega arith)
-said_more (x ∷ events) (s ∷ sayings) event saying e =
-    ap (λ said. said_of x s ∷ said) (said_more events sayings event saying (omega arith))
+none_beside : (events : List Entry) → said_beside events [] ≡ []
+none_beside [] = refl
+none_beside (x ∷ events) = refl
+
+-- one more, which is the first of those that wait
+pub said_more : (events : List Entry) (sayings : List Saying) (event : Entry) (rest : List Entry) (saying : Saying)
+    → drop (length sayings) events ≡ event ∷ rest
+    → said_beside events (sayings ++ saying ∷ []) ≡ said_beside events sayings ++ said_of event saying ∷ []
+said_more [] [] event rest saying e = absurd (let n = ap length e in omega (arith, n))
+said_more [] (s ∷ sayings) event rest saying e = absurd (let n = ap length e in omega (arith, n))
+said_more (x ∷ events) [] event rest saying e =
+    ap (λ said. said_of x saying ∷ said) (none_beside events)
+    ∙ ap (λ y. said_of y saying ∷ []) (ap (λ es. get_or es 0 event) e)
+said_more (x ∷ events) (s ∷ sayings) event rest saying e =
+    ap (λ said. said_of x s ∷ said) (said_more events sayings event rest saying e)
+
+-- then the others wait
+pub rest_waits : (events : List Entry) (n : ℕ) (event : Entry) (rest : List Entry)
+    → drop n events ≡ event ∷ rest → drop (n + 1) events ≡ rest
+rest_waits [] zero event rest e = absurd (let n = ap length e in omega (arith, n))
+rest_waits [] (suc n) event rest e = absurd (let n = ap length e in omega (arith, n))
+rest_waits (x ∷ events) zero event rest e = ap (drop 1) e
+rest_waits (x ∷ events) (suc n) event rest e =
+    let m : suc n + 1 ≡ suc (n + 1) = omega arith in
+    ap (λ k. drop k (x ∷ events)) m ∙ rest_waits events n event rest e
+
+-- and the first was among all
+pub front_more : (events : List Entry) (n : ℕ) (event : Entry) (rest : List Entry)
+    → drop n events ≡ event ∷ rest → take (n + 1) events ≡ take n events ++ event ∷ []
+front_more [] zero event rest e = absurd (let n = ap length e in omega (arith, n))
+front_more [] (suc n) event rest e = absurd (let n = ap length e in omega (arith, n))
+front_more (x ∷ events) zero event rest e = ap (λ es. get_or es 0 event ∷ []) e
+front_more (x ∷ events) (suc n) event rest e =
+    let m : suc n + 1 ≡ suc (n + 1) = omega arith in
+    ap (λ k. take k (x ∷ events)) m ∙ ap (λ es. x ∷ es) (front_more events n event rest e)
+
+-- as long as one waits, there are more events than sayings
+pub one_waits : (events : List Entry) (n : ℕ) (event : Entry) (rest : List Entry)
+    → drop n events ≡ event ∷ rest → n + 1 ≤ length events
+one_waits events n event rest e = (let m = length-drop n events in let k = ap length e in omega (arith, m, k))
+
+-- what is said stays, whatever waits
+pub said_in_front : (events more : List Entry) (sayings : List Saying) → length sayings ≤ length events
+    → said_beside (take (length sayings) events ++ more) sayings ≡ said_beside events sayings
+said_in_front [] more [] e = none_beside more
+said_in_front [] more (s ∷ sayings) e = absurd (omega arith)
+said_in_front (x ∷ events) more [] e = none_beside more
+said_in_front (x ∷ events) more (s ∷ sayings) e =
+    ap (λ said. said_of x s ∷ said) (said_in_front events more sayings (omega arith))
+
+pub same_said : (events : List Entry) (sayings : List Saying)
+    → said_beside (take (length sayings) events) sayings ≡ said_beside events sayings
+same_said [] [] = refl
+same_said [] (s ∷ sayings) = refl
+same_said (x ∷ events) [] = refl
+same_said (x ∷ events) (s ∷ sayings) = ap (λ said. said_of x s ∷ said) (same_said events sayings)
 
 -- the events of what is said
-pub entries_said : (events : List Entry) (sayings : List Saying) → length sayings ≡ length events
-    → map (λ event. event.entry) (said_beside events sayings) ≡ events
-entries_said [] sayings e = refl
-entries_said (x ∷ events) [] e = absurd (omega arith)
-entries_said (x ∷ events) (s ∷ sayings) e = ap (λ es. x ∷ es) (entries_said events sayings (omega arith))
+pub entries_said : (events : List Entry) (sayings : List Saying)
+    → map (λ event. event.entry) (said_beside events sayings) ≡ take (length sayings) events
+entries_said [] [] = refl
+entries_said [] (s ∷ sayings) = refl
+entries_said (x ∷ events) [] = refl
+entries_said (x ∷ events) (s ∷ sayings) = ap (λ es. x ∷ es) (entries_said events sayings)
 
-pub said_length : (events : List Entry) (sayings : List Saying) → length sayings ≡ length events
-    → length (said_beside events sayings) ≡ length events
-said_length [] sayings e = refl
-said_length (x ∷ events) [] e = absurd (omega arith)
+pub said_length : (events : List Entry) (sayings : List Saying) → length sayings ≤ length events
+    → length (said_beside events sayings) ≡ length sayings
+said_length [] [] e = refl
+said_length [] (s ∷ sayings) e = absurd (omega arith)
+said_length (x ∷ events) [] e = refl
 said_length (x ∷ events) (s ∷ sayings) e = (let h = said_length events sayings (omega arith) in omega (arith, h))
 
 -- the event at an index with the saying there
 pub said_here : (events : List Entry) (sayings : List Saying) (i : ℕ) (event : Entry) (saying : Saying)
-    → length sayings ≡ length events → i < length events → event ≡ get_or events i event
+    → length sayings ≤ length events → i < length sayings → event ≡ get_or events i event
     → saying ≡ get_or sayings i saying
     → said_of event saying ≡ get_or (said_beside events sayings) i (said_of event saying)
-said_here [] sayings i event saying e lt is there = absurd (omega arith)
+said_here [] [] i event saying e lt is there = absurd (omega arith)
+said_here [] (s ∷ sayings) i event saying e lt is there = absurd (omega arith)
 said_here (x ∷ events) [] i event saying e lt is there = absurd (omega arith)
 said_here (x ∷ events) (s ∷ sayings) zero event saying e lt is there =
     ap (λ y. said_of y saying) is ∙ ap (said_of x) there
@@ -58,8 +107,8 @@ saying_there [] i lt = absurd (omega arith)
 saying_there (s ∷ sayings) zero lt = (s, refl)
 saying_there (s ∷ sayings) (suc i) lt = saying_there sayings i (omega arith)
 
-module _ (cpu : ℕ) (events : List Entry) (sayings : List Saying) (i : ℕ) (paired : length sayings ≡ length events)
-    (lt : i < length events) where
+module _ (cpu : ℕ) (events : List Entry) (sayings : List Saying) (i : ℕ) (paired : length sayings ≤ length events)
+    (lt : i < length sayings) where
   abbrev said : List Claimed
   said = said_beside events sayings
 
@@ -100,7 +149,7 @@ module _ (cpu : ℕ) (events : List Entry) (sayings : List Saying) (i : ℕ) (pa
 
 -- all of them
 pub deals_all : (cpu : ℕ) (events : List Entry) (sayings : List Saying) (i : ℕ) (steps : List Step)
-    → length sayings ≡ length events → length events ≤ i → steps ≡ steps_at cpu (take i (said_beside events sayings))
+    → length sayings ≤ length events → length sayings ≤ i → steps ≡ steps_at cpu (take i (said_beside events sayings))
     → steps ≡ steps_at cpu (said_beside events sayings)
 deals_all cpu events sayings i steps paired all dealt =
     dealt ∙ ap (steps_at cpu) (take_all i (said_beside events sayings)

@@ -1,6 +1,6 @@
 -- A window of a record, as contracts see it: a stretch of its events, each with what the companion says on its line
 -- (this project's profile).
-use Rattle.std.specs.Prelude.{◌≡◌, ℕ, ◌<◌, List, [], ◌∷◌, length, slice_index_or}
+use Rattle.std.specs.Prelude.{◌≡◌, ℕ, ◌<◌, List, [], ◌∷◌, drop, length, slice_index_or}
 use Rattle.cfs_model.specs.Claimed.{Claimed}
 use Rattle.cfs_model.specs.declared.act.Entry.{Entry}
 use Rattle.replay_model.specs.Cut.{steps_at}
@@ -27,6 +27,10 @@ said_beside (event ∷ events) (saying ∷ sayings) = said_of event saying ∷ s
 
 abbrev pub window_view : Window → List Claimed
 window_view window = said_beside window.events.items window.sayings
+
+-- the events that wait until it is told what is said on their lines
+abbrev pub waiting : Window → List Entry
+waiting window = drop (length window.sayings) window.events.items
 
 -- the events that touch a processor stand at these indices, in their order: their steps are those of the processor
 pub record AreTouching (cpu : ℕ) (events : List Claimed) (indices : List ℕ) : Type 0 where

@@ -109,10 +109,13 @@ impl Sayings {
         ensures same { OnErr result (self.new ≡ self.old) }
     {
         self.said.reserve(1)?;
+        // Taken apart: a copy of the whole goes through the stack.
+        let Claim { line, pid, v, sort } = *claim;
+        let claim = Claim { line, pid, v, sort };
         self.said.push_reserved(if is_said {
-            Said::OneClaim(*claim)
+            Said::OneClaim(claim)
         } else {
-            Said::Nothing(*claim)
+            Said::Nothing(claim)
         });
         Ok(())
     }
@@ -139,6 +142,14 @@ impl Sayings {
         })?;
         self.said.push(Said::More(place))?;
         Ok(())
+    }
+
+    /// How many there are.
+    #[inline(always)]
+    pub(crate) fn len(&self) -> usize
+        ensures { result ≡ length self.now }
+    {
+        self.said.len()
     }
 
     /// Takes the last one off, if there is one.

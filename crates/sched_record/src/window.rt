@@ -1,5 +1,5 @@
 ghost use Rattle.std.specs.Prelude.{◌≡◌, ◌==◌, ℕ, ◌<◌, ◌^◌, ◌++◌, [], ◌∷◌, length};
-ghost use Rattle.std.specs.Prelude.{if◌then◌else◌, ◌≤◌, IfSome, IsSome, None, OnErr, OnOk, vec_capacity};
+ghost use Rattle.std.specs.Prelude.{if◌then◌else◌, ◌≤◌, IfSome, IsSome, None, OnErr, OnOk, take};
 ghost use Rattle.std.specs.List.{list_any};
 ghost use Rattle.std.proofs.Props.{props};
 ghost use Rattle.cfs_model.specs.Limits.{most_processors};
@@ -12,6 +12,7 @@ use crate::sayings::Sayings;
 use cfs_model::{Act, ChargeLine, Claim, Entry, MOST_PROCESSORS, Memory, NiceLine, Policy};
 use replay_model::Step;
 use std::alloc::Global;
+use std::slice::from_ref;
 
 /// What the companion says on the line of an event, and the policy of the task that the event bears or moves.
 #[derive(Clone, Copy, Debug)]
@@ -25,21 +26,24 @@ pub struct Saying {
 /// A stretch of a record's events, in the order of their lines, each with what the companion says on its line.
 #[derive(Drop)]
 pub struct Window {
+    /// The stretch's, and behind them those that wait until it is told what is said on their lines.
     events: Vec<Entry>,
     sayings: Sayings,
     /// Where in `events` those of each processor stand, of as many as a `u32` counts.
     indices: Indices,
-    pub ghost paired: { length sayings ≡ length events.items },
-    ghost indexed: { length events.items < 2 ^ 32 → AreIndicesOf events.items indices } by { Prim.hlevel props },
+    pub ghost paired: { length sayings ≤ length events.items },
+    ghost indexed: { length sayings < 2 ^ 32
+        → AreIndicesOf (take (length sayings) events.items) indices } by { Prim.hlevel props },
 }
 
 impl Window {
-    ghost use Rattle.std.specs.Prelude.{map, slice_index_or};
+    ghost use Rattle.std.specs.Prelude.{List, map, slice_index_or};
     ghost use Rattle.cfs_model.specs.Claimed.{Claimed};
+    ghost use Rattle.cfs_model.specs.declared.act.Entry.{Entry as Event};
     ghost use Rattle.replay_model.specs.Cut.{steps_at};
     ghost use Rattle.replay_model.specs.StepAt.{step_at as step_here};
     ghost use Rattle.sched_record.specs.Sayings.{claim_alone};
-    ghost use Rattle.sched_record.specs.Window.{AreTouching, said_beside, said_of, window_view};
+    ghost use Rattle.sched_record.specs.Window.{AreTouching, said_beside, said_of, waiting, window_view};
 
     /// A window without events.
     pub fn new(alloc: Global) -> Window
@@ -52,36 +56,60 @@ impl Window {
         }
     }
 
-    /// Adds an event behind the others, with what is said on its line.
+    /// Adds an event behind the others, with what is said on its line. Those that wait are let go.
     pub fn add(&mut self, event: &Entry, saying: Saying) -> Result<(), Memory>
         ensures added { OnOk result (window_view self.new ≡ window_view self.old ++ said_of event.now saying ∷ []) }
         ensures same { OnErr result (window_view self.new ≡ window_view self.old) }
     {
-        self.events.reserve(1)?;
+        self.bring(from_ref(event))?;
+        self.say(event, saying)
+    }
+
+    /// Lets these events wait, in place of those that did. They come behind the others, one by one, as it is told what
+    /// is said on their lines.
+    pub fn bring(&mut self, events: &[Entry]) -> Result<(), Memory>
+        ensures same { window_view self.new ≡ window_view self.old }
+        ensures brought { OnOk result (waiting self.new ≡ events.now) }
+    {
+        self.events.truncate(self.sayings.len());
+        self.events.extend_from_slice(events)?;
+        Ok(())
+    }
+
+    /// Adds the first event that waits behind the others, with what is said on its line.
+    pub fn say(&mut self, event: &Entry, saying: Saying) -> Result<(), Memory>
+        requires first { (rest : List Event) × (waiting self.old ≡ event.now ∷ rest) }
+        ensures added { OnOk result (window_view self.new ≡ window_view self.old ++ said_of event.now saying ∷ []) }
+        ensures rest { (rest : List Event) → waiting self.old ≡ event.now ∷ rest
+            → OnOk result (waiting self.new ≡ rest) }
+        ensures same { OnErr result (window_view self.new ≡ window_view self.old) }
+    {
+        let index = self.sayings.len();
         self.sayings.push(saying)?;
-        let added = push_event(&mut self.events, &mut self.indices, event);
+        let added = add_index(&mut self.indices, event.act, index);
         if added.is_err() {
             self.sayings.pop();
-            return added;
         }
-        Ok(())
+        added
     }
 
     /// The same of an event on whose line no more is said than this claim, or nothing.
     #[inline(always)]
-    pub fn add_claimed(&mut self, event: &Entry, claim: &Claim, is_said: bool) -> Result<(), Memory>
+    pub fn say_claim(&mut self, event: &Entry, claim: &Claim, is_said: bool) -> Result<(), Memory>
+        requires first { (rest : List Event) × (waiting self.old ≡ event.now ∷ rest) }
         ensures added { OnOk result
             (window_view self.new ≡ window_view self.old ++ said_of event.now (claim_alone is_said claim.now) ∷ []) }
+        ensures rest { (rest : List Event) → waiting self.old ≡ event.now ∷ rest
+            → OnOk result (waiting self.new ≡ rest) }
         ensures same { OnErr result (window_view self.new ≡ window_view self.old) }
     {
-        self.events.reserve(1)?;
+        let index = self.sayings.len();
         self.sayings.push_claim(claim, is_said)?;
-        let added = push_event(&mut self.events, &mut self.indices, event);
+        let added = add_index(&mut self.indices, event.act, index);
         if added.is_err() {
             self.sayings.pop();
-            return added;
         }
-        Ok(())
+        added
     }
 
     /// Empties it; what it took it keeps.
@@ -97,7 +125,7 @@ impl Window {
     pub fn events(&self) -> &[Entry]
         ensures { result.now ≡ map (λ event. event.entry) (window_view self.now) }
     {
-        &self.events
+        &self.events[..self.sayings.len()]
     }
 
     /// The event at an index, and what is said on its line; none at the end.
@@ -106,7 +134,7 @@ impl Window {
             ≡ slice_index_or (window_view self.now) index (said_of at.0 at.1)) }
         ensures none { result ≡ None → length (window_view self.now) ≤ index }
     {
-        if index < self.events.len() {
+        if index < self.sayings.len() {
             Some((self.events[index], self.sayings.get(index)))
         } else {
             None
@@ -120,7 +148,7 @@ impl Window {
         ensures touching { IfSome result (λ indices. AreTouching cpu (window_view self.now) indices.now) }
         ensures kept { cpu < most_processors → length (window_view self.now) < 2 ^ 32 → IsSome result }
     {
-        if cpu as usize >= MOST_PROCESSORS || self.events.len() > u32::MAX as usize {
+        if cpu as usize >= MOST_PROCESSORS || self.sayings.len() > u32::MAX as usize {
             return None;
         }
         Some(self.indices.at(cpu))
@@ -156,7 +184,7 @@ impl Window {
     /// here alone.
     #[inline(never)]
     fn write_whole(&self, index: usize, cpu: u32, step: &mut Step)
-        requires { index < length self.now.events.items }
+        requires { index < length self.now.sayings }
         ensures { (here : Claimed) → here ≡ slice_index_or (window_view self.now) index here
             → step.new ≡ step_here cpu here }
     {
@@ -182,7 +210,7 @@ impl Window {
         requires { steps.old.items ≡ [] }
         ensures { OnOk result (steps.new.items ≡ steps_at cpu (window_view self.now)) }
     {
-        for index in 0..self.events.len() {
+        for index in 0..self.sayings.len() {
             if touches(self.events[index].act, cpu) {
                 self.push_step(index, cpu, steps)?;
             }
@@ -192,7 +220,7 @@ impl Window {
 
     /// Adds the step of the event at an index, at a processor that it touches.
     fn push_step(&self, index: usize, cpu: u32, steps: &mut Vec<Step>) -> Result<(), Memory>
-        requires { index < length self.now.events.items }
+        requires { index < length self.now.sayings }
         ensures { (here : Claimed) → here ≡ slice_index_or (window_view self.now) index here
             → OnOk result (steps.new.items ≡ steps.old.items ++ step_here cpu here ∷ []) }
     {
@@ -221,7 +249,7 @@ impl Window {
     /// The step of the event at an index of the list of events, at a processor that it touches.
     #[inline(never)]
     fn step_of(&self, index: usize, cpu: u32) -> Step
-        requires { index < length self.now.events.items }
+        requires { index < length self.now.sayings }
         ensures { (here : Claimed) → here ≡ slice_index_or (window_view self.now) index here
             → result ≡ step_here cpu here }
     {
@@ -237,20 +265,6 @@ fn push<T: Drop>(list: &mut Vec<T>, item: T) -> Result<(), Memory>
     ensures { OnOk result (list.new.items ≡ list.old.items ++ item ∷ []) }
 {
     list.push(item)?;
-    Ok(())
-}
-
-/// Adds an event behind the others, where there is room, and to the indices of the processors that it touches.
-#[inline(always)]
-fn push_event(events: &mut Vec<Entry>, indices: &mut Indices, event: &Entry) -> Result<(), Memory>
-    requires room { length events.old.items < vec_capacity events.old }
-    requires indexed { length events.old.items < 2 ^ 32 → AreIndicesOf events.old.items indices.old }
-    ensures added { OnOk result (events.new.items ≡ events.old.items ++ event.now ∷ []) }
-    ensures same { OnErr result (events.new.items ≡ events.old.items) }
-    ensures indexed { length events.new.items < 2 ^ 32 → AreIndicesOf events.new.items indices.new }
-{
-    add_index(indices, event.act, events.len())?;
-    events.push_reserved(*event);
     Ok(())
 }
 

@@ -22,10 +22,11 @@ use Rattle.input_blocks.specs.Blocks.{IsThen}
 use Rattle.input_blocks.specs.OfCompanion.{ReadsCompanion}
 use Rattle.input_blocks.specs.declared.line_blocks.LineBlocks.{LineBlocks}
 use Rattle.text_parts.specs.Lines.{lines_of}
+use Rattle.window_joining.proofs.Adding.{held_on}
 use Rattle.window_joining.specs.Joining.{IsHeadOf, IsHeld, StandBehind, edge_of}
 use Rattle.stream_audit.proofs.Calm.{calm_from, same_refusal}
 use Rattle.stream_audit.proofs.Companion.{good_same}
-use Rattle.stream_audit.proofs.Joined.{all_behind, held_on}
+use Rattle.stream_audit.proofs.Joined.{all_behind}
 use Rattle.stream_audit.specs.Companion.{GoesPast, IsCompanionAt, IsPast, SaysOn}
 use Rattle.stream_audit.specs.Course.{AreEventsNext, IsAmidJoining, IsCalm, IsCourseOf, IsNotBegun, IsReadyFor}
 use Rattle.stream_audit.specs.Joined.{Comes, AreJoinedSoFar}

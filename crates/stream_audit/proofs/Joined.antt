@@ -1,10 +1,9 @@
 -- What was joined so far: the window's events are those that come behind what was handed on.
-use Rattle.std.proofs.Common.{◌≡◌, ℕ, zero, suc, ◌+◌, ◌<◌, ◌≤◌, Bool, true, false, ℤ, List, [], ◌∷◌, ◌++◌}
-use Rattle.std.proofs.Common.{length, get_or, take, All, AllPairs, Option, None, IsSome, refl, sym, ap, ◌∙◌, subst}
+use Rattle.std.proofs.Common.{◌≡◌, ℕ, suc, ◌<◌, ◌≤◌, Bool, true, false, ℤ, List, [], ◌∷◌, ◌++◌}
+use Rattle.std.proofs.Common.{length, All, AllPairs, Option, None, IsSome, refl, sym, ap, ◌∙◌, subst}
 use Rattle.std.proofs.Common.{arith}
-use Rattle.std.proofs.Common.{suc-le-suc, append-nil, append_assoc, length-append}
+use Rattle.std.proofs.Common.{suc-le-suc, append-nil, length-append}
 use Rattle.std.proofs.lemmas.Bool.{false≢true}
-use Rattle.std.proofs.lemmas.List.{take_more}
 use Rattle.cfs_model.specs.Claimed.{Claimed}
 use Rattle.stream_audit.specs.Aim.{AimView, audited_at, begun_of}
 use Rattle.cfs_model.specs.Limits.{greatest_line, greatest_setting, no_line}
@@ -24,10 +23,10 @@ use Rattle.ticket_book.specs.SaidEvents.{events_of}
 use Rattle.companion_file.specs.Seen.{companion_view}
 use Rattle.sched_record.specs.Window.{window_view}
 use Rattle.stream_audit.specs.Aim.{Begun}
-use Rattle.window_joining.specs.Joining.{GoTogetherSoFar, IsHeadOf, IsHeld, IsRestOf, StandBehind, edge_from}
+use Rattle.window_joining.specs.Joining.{GoTogetherSoFar, IsHeadOf, IsHeld, StandBehind, edge_from}
 use Rattle.window_joining.specs.Joining.{edge_of}
 use Rattle.stream_laws.proofs.Prefix.{few_events, record_so_far, same_count, times_stay_below}
-use Rattle.stream_audit.specs.Joined.{AreJoinedSoFar, Comes, IsLast}
+use Rattle.stream_audit.specs.Joined.{AreJoinedSoFar, IsLast}
 use Rattle.stream_audit.specs.Judge.{IsAllOf, IsAwaiting, begun}
 use Rattle.stream_audit.specs.Progress.{IsEnd, IsKnownOf, IsNext}
 use Rattle.stream_audit.specs.declared.joined_events.JoinedEvents.{JoinedEvents}
@@ -63,25 +62,7 @@ next_below before events o = edge_below no_line before events o.from_one o.lines
 
 -- ---- what is held of a companion
 
-rest_on : {A : Type 0} (line_of : A → ℕ) (edge later : ℕ) (all rest : List A) → edge ≤ later
-    → IsRestOf A line_of edge all rest → IsRestOf A line_of later all rest
-rest_on line_of edge later all rest up r = record {
-  gone = r.gone;
-  parts = r.parts;
-  passed = λ k d h. let below = r.passed k d h in omega (arith, below, up);
-}
-
--- it stays held for later lines
-pub held_on : (edge later : ℕ) (c : CompanionView) (claims : List Claim) (nices : List NiceLine)
-    (charges : List ChargeLine) → edge ≤ later → IsHeld edge c claims nices charges
-    → IsHeld later c claims nices charges
-held_on edge later c claims nices charges up h = record {
-  claims = rest_on (λ (claim : Claim). claim.line) edge later c.claims claims up h.claims;
-  nices = rest_on (λ (change : NiceLine). change.line) edge later c.nices nices up h.nices;
-  charges = rest_on (λ (charge : ChargeLine). charge.line) edge later c.charges charges up h.charges;
-}
-
--- and rises
+-- what is held rises
 pub claims_rise : (edge : ℕ) (c : CompanionView) (claims : List Claim) (nices : List NiceLine)
     (charges : List ChargeLine) → IsCompanionInOrder c → IsHeld edge c claims nices charges
     → AllPairs (λ (a : Claim) (b : Claim). a.line < b.line) claims
@@ -196,44 +177,6 @@ none_awaited of handed judge known none = record {
   known = known;
   next = λ some. absurd (some none);
 }
-
--- ---- joining one event after another
-
-rise_behind : (before events : List Entry) → AllPairs (λ (a : Entry) (b : Entry). a.line < b.line) (before ++ events)
-    → AllPairs (λ (a : Entry) (b : Entry). a.line < b.line) events
-rise_behind before events = pairs_behind (λ (a : Entry) (b : Entry). a.line < b.line) before events
-
-same_at : (events : List Entry) (k : ℕ) (d e : Entry) → k < length events → get_or events k d ≡ get_or events k e
-same_at [] k d e within = absurd (omega (arith, within))
-same_at (event ∷ events) zero d e within = refl
-same_at (event ∷ events) (suc k) d e within = same_at events k d e (omega (arith, within))
-
--- the events that come next stand below what was joined
-pub next_above : (c : CompanionView) (before : List Entry) (handed : List Claimed) (events : List Entry)
-    (claims : List Claim) (nices : List NiceLine) (charges : List ChargeLine) (joined : JoinedEvents)
-    → Comes c before handed events claims nices charges joined
-    → (k : ℕ) (d : Entry) → k < length events → joined.joining.line < (get_or events k d).line
-next_above c before handed events claims nices charges joined comes k d within =
-    subst (λ line. line < (get_or events k d).line) (sym comes.so_far.joining.edge)
-    (next_below before events comes.next.trace k d within)
-
--- and those behind one of them below it
-pub later_above : (c : CompanionView) (before : List Entry) (handed : List Claimed) (events : List Entry)
-    (claims : List Claim) (nices : List NiceLine) (charges : List ChargeLine) (joined : JoinedEvents)
-    → Comes c before handed events claims nices charges joined
-    → (i k : ℕ) (event d : Entry) → i < k → k < length events → event ≡ get_or events i event
-    → event.line < (get_or events k d).line
-later_above c before handed events claims nices charges joined comes i k event d below within is =
-    subst (λ (e : Entry). e.line < (get_or events k d).line)
-    (same_at events i d event (omega (arith, below, within)) ∙ sym is)
-    (rise_behind before events comes.next.trace.lines_rise i k d below within)
-
--- one more was
-pub after_one : (before events : List Entry) (i : ℕ) (event : Entry) → i < length events
-    → event ≡ get_or events i event → (before ++ take i events) ++ event ∷ [] ≡ before ++ take (i + 1) events
-after_one before events i event within is =
-    append_assoc before (take i events) (event ∷ [])
-    ∙ ap (λ xs. before ++ xs) (ap (λ e. take i events ++ e ∷ []) is ∙ sym (take_more events i event within))
 
 -- ---- the end
 

@@ -59,11 +59,9 @@ impl JoinedEvents {
             → Comes c before handed events.now claims.now nices.now charges.now self.old
             → OnOk result (AreJoinedSoFar c (before ++ events.now) handed self.new) }
     {
-        for index in 0..events.len() {
-            let event = &events[index];
-            self.joining.add(&self.start, event, claims, nices, charges, &mut self.window)?;
-        }
-        Ok(())
+        let window = &mut self.window;
+        self.joining
+            .add(&self.start, events, claims, nices, charges, window)
     }
 
     /// Hands on the events that weren't, in an empty window.

@@ -1,3 +1,4 @@
+pub mod Adding
 pub mod Begun
 pub mod Cuts
 pub mod Ended

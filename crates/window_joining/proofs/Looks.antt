@@ -1,17 +1,23 @@
 -- What one look at the next claim tells: that nothing is new up to a line, or that claim alone.
 use Rattle.std.proofs.Common.{◌≡◌, ℕ, ◌+◌, ◌<◌, ◌≤◌, List, [], ◌∷◌, ◌++◌, length, get_or, take, drop}
 use Rattle.std.proofs.Common.{zero, suc, inl, inr, sym, ap, ◌∙◌, subst, arith, Bool, true, false, eqb, true≢false}
+use Rattle.std.proofs.Common.{Option}
 use Rattle.std.specs.Prelude.{All, pos}
 use Rattle.std.specs.List.{AllPairs}
 use Rattle.std.specs.Option.{option_to_list}
 use Rattle.std.proofs.lemmas.Bool.{cases_lt, eqb-false, eqb-true}
 use Rattle.std.proofs.lemmas.List.{at_drop_more, get_or-drop, get_or-take, get_or_default, length-drop, length-take-le}
 use Rattle.std.proofs.lemmas.List.{take-append-drop}
+use Rattle.cfs_model.specs.declared.charge_line.ChargeLine.{ChargeLine}
 use Rattle.cfs_model.specs.declared.claim.Claim.{Claim}
 use Rattle.cfs_model.specs.declared.claim.ClaimSort.TheVariants.{At}
+use Rattle.cfs_model.specs.declared.idle_line.IdleLine.{IdleLine}
+use Rattle.cfs_model.specs.declared.nice_line.NiceLine.{NiceLine}
 use Rattle.window_joining.proofs.Firsts.{rise_weak, through_here}
 use Rattle.window_joining.specs.Between.{IsCut, IsThrough}
-use Rattle.window_joining.specs.Look.{told}
+use Rattle.window_joining.specs.Look.{MayLook, news_of, told}
+use Rattle.window_joining.specs.News.{IsNews, ListsView}
+use Rattle.window_joining.specs.declared.joining.Joining.{Joining}
 
 -- where as many items stand up to the one line as up to the other, none is between
 pub nothing_cut : {X : Type 0} (f : X → ℕ) (items : List X) (index low line : ℕ) → IsThrough X f items low index
@@ -118,3 +124,25 @@ seen_at claims next low line claim false rise order h passed is beyond e =
           let same = ap (λ (x : Claim). x.line) (get_or_default claims next d claim h ∙ sym is) in
           omega (arith, same, beyond, apart))),
     )
+
+-- where no more than claims are said, what a look tells is all that is new
+nothing_in : {X : Type 0} (f : X → ℕ) (low high : ℕ) (items : List X) → items ≡ [] → IsCut X f low high items []
+nothing_in f low high items none = record {
+  before = [];
+  after = [];
+  parts = none;
+  passed = λ k d h. absurd (omega (arith, h));
+  above = λ k d h. absurd (omega (arith, h));
+  within = λ k d h. absurd (omega (arith, h));
+  beyond = λ k d h. absurd (omega (arith, h));
+}
+
+pub news_by_look : (lists : ListsView) (joining : Joining) (low high : ℕ) (claim : Option Claim)
+    → MayLook lists joining → IsCut Claim (λ claim. claim.line) low high lists.claims (option_to_list claim)
+    → IsNews low high lists (news_of claim)
+news_by_look lists joining low high claim looks cut = record {
+  claims = cut;
+  nices = nothing_in (λ (change : NiceLine). change.line) low high lists.nices looks.nices;
+  charges = nothing_in (λ (charge : ChargeLine). charge.line) low high lists.charges looks.charges;
+  idles = nothing_in (λ (idle : IdleLine). idle.line) low high lists.idles looks.idles;
+}

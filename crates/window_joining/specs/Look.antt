@@ -1,14 +1,13 @@
 -- What one look at the next claim tells of what is new (this project's profile).
-use Rattle.std.specs.Prelude.{◌≡◌, ℕ, ◌<◌, Bool, true, false, List, [], length, Option, Some, None}
+use Rattle.std.specs.Prelude.{◌≡◌, ℕ, ◌<◌, ◌≤◌, Bool, true, false, List, [], length, slice_index_or, Option, Some, None}
 use Rattle.std.specs.Option.{option_to_list}
-use Rattle.cfs_model.specs.declared.act.Entry.{Entry}
 use Rattle.cfs_model.specs.declared.claim.Claim.{Claim}
 use Rattle.window_joining.specs.Between.{IsCut}
-use Rattle.window_joining.specs.News.{IsNews, ListsView}
+use Rattle.window_joining.specs.News.{ListsView}
 use Rattle.window_joining.specs.Policies.{AreUsual}
+use Rattle.window_joining.specs.declared.joining.Joining.{Joining}
 use Rattle.window_joining.specs.declared.look.Look.{Look}
 use Rattle.window_joining.specs.declared.look.Look.TheVariants.{Clear, Unclear}
-use Rattle.window_joining.specs.declared.policies.Policies.{Policies}
 
 -- this claim, if it is said
 abbrev pub told : Bool → Claim → Option Claim
@@ -27,9 +26,21 @@ IsSeen claims next low line (Clear claim is_said behind) =
     × IsCut Claim (λ claim. claim.line) low line claims (option_to_list (told is_said claim.now))
 IsSeen claims next low line Unclear = Unit {0}
 
--- the same of all that is new up to an event's line, where nobody is of the idle policy
-abbrev pub IsGlance : Policies → ℕ → ListsView → ℕ → Entry → Look → Type 0
-IsGlance policies low lists next event (Clear claim is_said behind) = AreUsual policies
-    × (is_said ≡ true → (next < length lists.claims) × (claim.now.line ≡ event.line))
-    × IsNews low event.line lists (news_of (told is_said claim.now))
-IsGlance policies low lists next event Unclear = Unit {0}
+-- the claims before an index stand on lines up to this one
+abbrev pub ArePassed : List Claim → ℕ → ℕ → Type 0
+ArePassed claims next line =
+    (next ≤ length claims) × ((k : ℕ) (d : Claim) → k < next → (slice_index_or claims k d).line ≤ line)
+
+-- so do those that are passed after a look
+abbrev pub WillPass : List Claim → ℕ → Look → Type 0
+WillPass claims line (Clear claim is_said behind) = ArePassed claims behind line
+WillPass claims line Unclear = Unit {0}
+
+-- one look at the next claim may tell what is new of the next event: nothing but claims is said, nobody is of the idle
+-- policy, and the claims before the next are passed
+pub record MayLook (lists : ListsView) (joining : Joining) : Type 0 where
+  pub usual : AreUsual joining.policies
+  pub nices : lists.nices ≡ []
+  pub charges : lists.charges ≡ []
+  pub idles : lists.idles ≡ []
+  pub passed : ArePassed lists.claims joining.hints.claims joining.line

@@ -3,7 +3,7 @@ ghost use Rattle.std.specs.List.{AllPairs};
 
 use crate::between::{between, first_behind, last_on};
 use crate::hints::Hints;
-use crate::look::{Look, look_at};
+use crate::look::{Look, are_passed, look_at};
 use crate::policies::Policies;
 use crate::refusing::{note_late, note_outside};
 use crate::strays::{lesser, stray_in};
@@ -31,6 +31,7 @@ pub struct Joining {
 impl Joining {
     ghost use Rattle.std.specs.Prelude.{◌≤◌, ◌++◌, ◌∷◌, [], All, List, IfOk, IfSome, OnOk, IsSome, MatchOption, Some};
     ghost use Rattle.std.specs.Prelude.{true};
+    ghost use Rattle.std.specs.Bool.{OnTrue};
     ghost use Rattle.std.specs.Option.{option_to_list};
     ghost use Rattle.cfs_model.specs.Claimed.{Claimed, policy_told, with_claim};
     ghost use Rattle.cfs_model.specs.Limits.{no_line};
@@ -38,11 +39,11 @@ impl Joining {
     ghost use Rattle.companion_file.specs.Companion.{CompanionView};
     ghost use Rattle.companion_file.specs.Seen.{companion_view};
     ghost use Rattle.sched_record.specs.Join.{IsLeastOf, RecordAnswer};
-    ghost use Rattle.sched_record.specs.Window.{said_of, window_view};
+    ghost use Rattle.sched_record.specs.Window.{said_of, waiting, window_view};
     ghost use Rattle.window_joining.specs.Joining.{HasJoined, IsHeadOf, IsHeld, StandBehind, is_refused};
     ghost use Rattle.window_joining.specs.Joining.{joined_answer};
     ghost use Rattle.window_joining.specs.Joining.{joined_events, rank_of};
-    ghost use Rattle.window_joining.specs.Look.{IsGlance, news_of, told};
+    ghost use Rattle.window_joining.specs.Look.{MayLook, news_of, told};
     ghost use Rattle.window_joining.specs.News.{AreRising, IsBehind};
     ghost use Rattle.window_joining.specs.Passing.{Passes};
     ghost use Rattle.window_joining.specs.Policies.{AreUsual, policies_view};
@@ -91,18 +92,83 @@ impl Joining {
         }
     }
 
-    /// Joins one more event, and adds it to a window with what is said on its line. Of what the companion says, what
-    /// stands on lines up to the last event's may be gone.
-    #[inline(always)]
+    /// Joins the next events, and adds them to a window with what is said on their lines. Of what the companion says,
+    /// what stands on lines up to that of the last event before them may be gone.
     pub fn add(
         &mut self,
+        head: &Companion,
+        events: &[Entry],
+        claims: &[Claim],
+        nices: &[NiceLine],
+        charges: &[ChargeLine],
+        window: &mut Window,
+    ) -> Result<(), Memory>
+        requires rise { AllPairs (λ a b. a.line < b.line) events.now }
+        requires later { All (λ event. self.old.line < event.line) events.now }
+        requires claims_rise { AllPairs (λ a b. a.line < b.line) claims.now }
+        requires nices_rise { AllPairs (λ a b. a.line < b.line) nices.now }
+        requires charges_rise { AllPairs (λ a b. a.line < b.line) charges.now }
+        ensures joined { OnOk result ((c : CompanionView) (before : List Event) → HasJoined self.old c before
+            → IsHeadOf (companion_view head.now) c → IsHeld self.old.line c claims.now nices.now charges.now
+            → HasJoined self.new c (before ++ events.now)) }
+        ensures window { OnOk result ((c : CompanionView) (before : List Event) → HasJoined self.old c before
+            → IsHeadOf (companion_view head.now) c → IsHeld self.old.line c claims.now nices.now charges.now
+            → (earlier : List Claimed) → earlier ++ window_view window.old ≡ joined_events c before
+            → earlier ++ window_view window.new ≡ joined_events c (before ++ events.now)) }
+        ensures refused { OnOk result (is_refused self.old ≡ true → is_refused self.new ≡ true) }
+    {
+        window.bring(events)?;
+        let mut looks = self.may_look(head, claims, nices, charges);
+        for index in 0..events.len() {
+            let event = &events[index];
+            looks = self.add_next(looks, head, event, claims, nices, charges, window)?;
+        }
+        Ok(())
+    }
+
+    /// Whether one look at the next claim may tell what is new of the next event.
+    fn may_look(
+        &self,
+        head: &Companion,
+        claims: &[Claim],
+        nices: &[NiceLine],
+        charges: &[ChargeLine],
+    ) -> bool
+        requires claims_rise { AllPairs (λ a b. a.line < b.line) claims.now }
+        ensures { OnTrue result (MayLook (record {
+          claims = claims.now;
+          nices = nices.now;
+          charges = charges.now;
+          idles = head.now.idles;
+        }) self.now) }
+    {
+        nices.is_empty()
+            && charges.is_empty()
+            && head.idles().is_empty()
+            && self.policies.are_usual()
+            && are_passed(claims, self.hints.claims, self.line)
+    }
+
+    /// Joins one more event, the first that waits in a window. Says whether a look at the next claim may tell what is
+    /// new of the one behind it, as it may have of this one.
+    #[inline(always)]
+    fn add_next(
+        &mut self,
+        looks: bool,
         head: &Companion,
         event: &Entry,
         claims: &[Claim],
         nices: &[NiceLine],
         charges: &[ChargeLine],
         window: &mut Window,
-    ) -> Result<(), Memory>
+    ) -> Result<bool, Memory>
+        requires first { (rest : List Event) × (waiting window.old ≡ event.now ∷ rest) }
+        requires looks { looks ≡ true → MayLook (record {
+          claims = claims.now;
+          nices = nices.now;
+          charges = charges.now;
+          idles = head.now.idles;
+        }) self.old }
         requires later { self.old.line < event.now.line }
         requires claims_rise { AllPairs (λ a b. a.line < b.line) claims.now }
         requires nices_rise { AllPairs (λ a b. a.line < b.line) nices.now }
@@ -114,43 +180,35 @@ impl Joining {
             → IsHeadOf (companion_view head.now) c → IsHeld self.old.line c claims.now nices.now charges.now
             → (before : List Claimed) → before ++ window_view window.old ≡ joined_events c events
             → before ++ window_view window.new ≡ joined_events c (events ++ event.now ∷ [])) }
-        ensures refused { OnOk result (is_refused self.old ≡ true → is_refused self.new ≡ true) }
-        ensures line { OnOk result (self.new.line ≡ event.now.line) }
-    {
-        match self.look(head, event, claims, nices, charges) {
-            Look::Clear {
-                claim,
-                is_said,
-                passed,
-            } => self.add_usual(head, event, claim, is_said, passed, window),
-            Look::Unclear => self.add_by_lists(head, event, claims, nices, charges, window),
-        }
-    }
-
-    /// What is new up to an event's line, as far as a look tells.
-    #[inline(always)]
-    fn look<'a>(
-        &self,
-        head: &Companion,
-        event: &Entry,
-        claims: &'a [Claim],
-        nices: &[NiceLine],
-        charges: &[ChargeLine],
-    ) -> Look<'a>
-        requires later { self.now.line < event.now.line }
-        requires claims_rise { AllPairs (λ a b. a.line < b.line) claims.now }
-        ensures { IsGlance self.now.policies self.now.line (record {
+        ensures rest { (rest : List Event) → waiting window.old ≡ event.now ∷ rest
+            → OnOk result (waiting window.new ≡ rest) }
+        ensures looks { IfOk result (λ looks. looks ≡ true → MayLook (record {
           claims = claims.now;
           nices = nices.now;
           charges = charges.now;
           idles = head.now.idles;
-        }) self.now.hints.claims event.now result }
+        }) self.new) }
+        ensures refused { OnOk result (is_refused self.old ≡ true → is_refused self.new ≡ true) }
+        ensures line { OnOk result (self.new.line ≡ event.now.line) }
     {
-        let more_is_said = !nices.is_empty() || !charges.is_empty() || !head.idles().is_empty();
-        if more_is_said || !self.policies.are_usual() {
-            return Look::Unclear;
+        if !looks {
+            self.add_by_lists(head, event, claims, nices, charges, window)?;
+            return Ok(false);
         }
-        look_at(claims, self.hints.claims, self.line, event.line)
+        match look_at(claims, self.hints.claims, self.line, event.line) {
+            Look::Clear {
+                claim,
+                is_said,
+                passed,
+            } => {
+                self.add_usual(head, event, claim, is_said, passed, window)?;
+                Ok(true)
+            }
+            Look::Unclear => {
+                self.add_by_lists(head, event, claims, nices, charges, window)?;
+                Ok(false)
+            }
+        }
     }
 
     /// Adds an event of which no more is new than the claim on its line, if there is one, where nobody is of the idle
@@ -165,6 +223,7 @@ impl Joining {
         claims: usize,
         window: &mut Window,
     ) -> Result<(), Memory>
+        requires first { (rest : List Event) × (waiting window.old ≡ event.now ∷ rest) }
         requires usual { AreUsual self.old.policies }
         requires on_line { IfSome (told is_said claim.now) (λ claim. claim.line ≡ event.now.line) }
         ensures said { OnOk result (window_view window.new ≡ window_view window.old
@@ -172,8 +231,12 @@ impl Joining {
             (λ other. policy_told [] (λ line. policies_view self.old.policies) other.line other.act) event.now ∷ []) }
         ensures passed { OnOk result (Passes head.now.cpus head.now.start (news_of (told is_said claim.now)) event.now
             self.old self.new) }
+        ensures rest { (rest : List Event) → waiting window.old ≡ event.now ∷ rest
+            → OnOk result (waiting window.new ≡ rest) }
+        ensures policies { self.new.policies ≡ self.old.policies }
+        ensures hint { OnOk result (self.new.hints.claims ≡ claims) }
     {
-        window.add_claimed(event, claim, is_said)?;
+        window.say_claim(event, claim, is_said)?;
         note_outside(&mut self.outside, event, head.cpus());
         note_late(&mut self.late, self.line, event, head.start());
         self.line = event.line;
@@ -192,6 +255,7 @@ impl Joining {
         charges: &[ChargeLine],
         window: &mut Window,
     ) -> Result<(), Memory>
+        requires first { (rest : List Event) × (waiting window.old ≡ event.now ∷ rest) }
         requires later { self.old.line < event.now.line }
         requires claims_rise { AllPairs (λ a b. a.line < b.line) claims.now }
         requires nices_rise { AllPairs (λ a b. a.line < b.line) nices.now }
@@ -203,6 +267,8 @@ impl Joining {
             → IsHeadOf (companion_view head.now) c → IsHeld self.old.line c claims.now nices.now charges.now
             → (before : List Claimed) → before ++ window_view window.old ≡ joined_events c events
             → before ++ window_view window.new ≡ joined_events c (events ++ event.now ∷ [])) }
+        ensures rest { (rest : List Event) → waiting window.old ≡ event.now ∷ rest
+            → OnOk result (waiting window.new ≡ rest) }
         ensures refused { OnOk result (is_refused self.old ≡ true → is_refused self.new ≡ true) }
         ensures line { OnOk result (self.new.line ≡ event.now.line) }
     {
@@ -212,7 +278,7 @@ impl Joining {
         let (charges, charge) = between(charges, self.hints.charges, self.line, line);
         let (idles, idle) = between(head.idles(), self.hints.idles, self.line, line);
         let saying = self.saying(claims, nices, charges, idles, event);
-        window.add(event, saying)?;
+        window.say(event, saying)?;
         self.pass(head, claims, nices, charges, idles, event)?;
         self.hints = Hints {
             claims: claim,

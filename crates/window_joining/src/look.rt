@@ -1,8 +1,7 @@
-ghost use Rattle.std.specs.Prelude.{◌≡◌, ◌<◌, ◌≤◌, ℕ, length, slice_index_or};
+ghost use Rattle.std.specs.Prelude.{◌<◌};
 ghost use Rattle.std.specs.Bool.{OnTrue};
 ghost use Rattle.std.specs.List.{AllPairs};
-ghost use Rattle.cfs_model.specs.declared.claim.Claim.{Claim as ClaimOf};
-ghost use Rattle.window_joining.specs.Look.{IsSeen};
+ghost use Rattle.window_joining.specs.Look.{ArePassed, IsSeen, WillPass};
 
 use cfs_model::{Claim, ClaimSort, NO_LINE};
 
@@ -28,17 +27,16 @@ const NO_CLAIM: Claim = Claim {
     sort: ClaimSort::At,
 };
 
-/// Looks at the claim at an index, before which all claims should stand on lines up to one: what is new from there up
-/// to another.
+/// Looks at the claim at an index, before which all claims stand on lines up to one: what is new from there up to
+/// another.
 #[inline(always)]
 pub(crate) fn look_at(claims: &[Claim], next: usize, low: u32, line: u32) -> Look<'_>
     requires rise { AllPairs (λ a b. a.line < b.line) claims.now }
+    requires passed { ArePassed claims.now next low }
     requires order { low < line }
-    ensures { IsSeen claims.now next low line result }
+    ensures seen { IsSeen claims.now next low line result }
+    ensures passed { WillPass claims.now line result }
 {
-    if !are_passed(claims, next, low) {
-        return Look::Unclear;
-    }
     if next == claims.len() {
         return Look::Clear {
             claim: &NO_CLAIM,
@@ -59,11 +57,9 @@ pub(crate) fn look_at(claims: &[Claim], next: usize, low: u32, line: u32) -> Loo
 }
 
 /// Whether the claims before an index stand on lines up to this one, which the last of them tells.
-#[inline(always)]
-fn are_passed(claims: &[Claim], next: usize, line: u32) -> bool
+pub(crate) fn are_passed(claims: &[Claim], next: usize, line: u32) -> bool
     requires { AllPairs (λ a b. a.line < b.line) claims.now }
-    ensures { OnTrue result ((next ≤ length claims.now) × ((k : ℕ) (d : ClaimOf) → k < next
-        → (slice_index_or claims.now k d).line ≤ line)) }
+    ensures { OnTrue result (ArePassed claims.now next line) }
 {
     if next == 0 {
         return true;

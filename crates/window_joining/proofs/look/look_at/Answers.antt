@@ -4,18 +4,18 @@ use Rattle.cfs_model.specs.declared.claim.Claim.{Claim}
 use Rattle.window_joining.proofs.Looks.{no_claim, nothing_new, seen_at}
 use Rattle.window_joining.proofs.look.look_at.Goals as goal
 
-pub returns-then-next-claims : goal.returns-then-next-claims
-returns-then-next-claims c =
-    let passed = c.if-not-are_passed.ensures in
+pub returns-then-next-claims-clause-seen : goal.returns-then-next-claims-clause-seen
+returns-then-next-claims-clause-seen c =
+    let passed = c.requires.passed in
     let end = c.if-next-claims.true in (
       (λ said. absurd (true≢false (sym said))),
       nothing_new (λ (x : Claim). x.line) c.args.claims.now c.args.next c.args.low c.args.line c.requires.rise
           c.requires.order passed.0 passed.1 (λ d h. absurd (omega (arith, h, end))),
     )
 
-pub returns : goal.returns
-returns c =
-    let passed = c.if-not-are_passed.ensures in
+pub returns-clause-seen : goal.returns-clause-seen
+returns-clause-seen c =
+    let passed = c.requires.passed in
     let claims = c.args.claims.now in
     let next = c.args.next in
     let claim : Claim = get_or claims next no_claim in

@@ -8,9 +8,8 @@ loop-index-preserved c =
     let self = c.args.self.now in
     let i = c.loop-index.index in
     let n = c.len-index-end.ensures in
-    let k = self.events.ok in
     let t = c.loop-index-test.true in
-    let within : i < length self.events.items = omega (arith, n, k, t) in
+    let within : i < length self.sayings = omega (arith, n, t) in
     elim c.if-touches.branch [
       | then-touches+in_ok-push_step w ↦
           ap (λ s. s.items) w.steps-is
@@ -28,5 +27,4 @@ pub returns : goal.returns
 returns c =
     let self = c.args.self.now in
     deals_all c.args.cpu self.events.items self.sayings c.loop-index.index c.loop-index.steps.items self.paired
-    (let n = c.len-index-end.ensures in let k = self.events.ok in let t = c.loop-index-test.false in
-    omega (arith, n, k, t)) c.loop-index.invariant
+    (let n = c.len-index-end.ensures in let t = c.loop-index-test.false in omega (arith, n, t)) c.loop-index.invariant

@@ -1,8 +1,9 @@
-use Rattle.std.proofs.Common.{sym, ◌∙◌}
+use Rattle.std.proofs.Common.{take, sym, ap, ◌∙◌}
 use Rattle.sched_record.proofs.Windows.{entries_said}
 use Rattle.sched_record.proofs.window.Window.events.Goals as goal
 
 pub returns : goal.returns
 returns c =
-    c.deref.ensures.value
-    ∙ sym (entries_said c.args.self.now.events.items c.args.self.now.sayings c.args.self.now.paired)
+    let self = c.args.self.now in
+    ap (take c.len.result) c.deref.ensures.value ∙ ap (λ n. take n self.events.items) c.len.ensures
+    ∙ sym (entries_said self.events.items self.sayings)

@@ -9,9 +9,8 @@ pub returns-clause-touching : goal.returns-clause-touching
 returns-clause-touching c =
     let self = c.args.self.now in
     let n = c.len.ensures in
-    let k = self.events.ok in
     let t = c.if-len.false in
-    let known : length self.events.items < 2 ^ 32 = omega (arith, n, k, t) in
+    let known : length self.sayings < 2 ^ 32 = omega (arith, n, t) in
     let few = c.if-cpu-ge-MOST_PROCESSORS.false in
     are_touching c.args.cpu self.events.items self.sayings c.at.result.now self.paired
     (c.at.ensures ∙ self.indexed known c.args.cpu (omega (arith, few)))

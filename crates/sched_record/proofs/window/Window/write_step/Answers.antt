@@ -28,17 +28,16 @@ pub index-requires : goal.index-requires
 index-requires c =
     let self = c.args.self.now in
     let n = said_length self.events.items self.sayings self.paired in
+    let p = self.paired in
     let h = c.requires in
-    omega (arith, n, h)
+    omega (arith, n, p, h)
 
 pub returns : goal.returns
 returns c here stands =
     let self = c.args.self.now in
     let n = said_length self.events.items self.sayings self.paired in
-    let p = self.paired in
     let h = c.requires in
-    let there : c.args.index < length self.events.items = omega (arith, n, h) in
-    let within : c.args.index < length self.sayings = omega (arith, p, there) in
+    let within : c.args.index < length self.sayings = omega (arith, n, h) in
     let event = c.index.result.now in
     let usual : Option Claim → Saying =
     λ claim. record { claim = claim; nice = None; charge = None; policy = Normal } in
@@ -52,5 +51,5 @@ returns c here stands =
       policy = Normal;
     })) c.claim-step.ensures
     ∙ ap (step_at c.args.cpu) (said_is self.events.items self.sayings c.args.index event (usual alone) here self.paired
-    there c.index.ensures (stands_as self.sayings c.args.index (usual alone) within (λ saying is.
+    within c.index.ensures (stands_as self.sayings c.args.index (usual alone) within (λ saying is.
     c.is_more.ensures c.if-is_more.false saying (c.said_at-said.ensures saying is))) stands)

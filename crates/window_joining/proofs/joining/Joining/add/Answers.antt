@@ -1,30 +1,60 @@
--- Where a look tells what is new, an event is added by that; so what is known goes on as by all lists.
-use Rattle.std.proofs.Common.{◌++◌, Result, Ok, Err, refl, ap, ◌∙◌}
-use Rattle.std.specs.Prelude.{OnOk}
-use Rattle.companion_file.specs.Seen.{companion_view}
-use Rattle.window_joining.proofs.Joined.{adds_on, joins_on}
-use Rattle.window_joining.specs.Look.{news_of, told}
+use Rattle.std.proofs.Common.{◌<◌, ◌+◌, ◌++◌, List, drop, length, get_or, take}
+use Rattle.std.proofs.lemmas.Bool.{OnTrue_at}
+use Rattle.std.proofs.Common.{append-nil, sym, ap, subst, arith, ◌∙◌}
+use Rattle.cfs_model.specs.declared.act.Entry.{Entry}
+use Rattle.window_joining.proofs.Adding.{after_one, held_on, next_waits, rest_behind}
+use Rattle.window_joining.specs.Joining.{HasJoined, joined_events}
 use Rattle.window_joining.proofs.joining.Joining.add.Goals as goal
 
-on_ok : {A B : Type 0} (r : Result A B) {P Q : Type 0} → (P → Q) → OnOk r P → OnOk r Q
-on_ok (Ok a) f p = f p
-on_ok (Err b) f p = p
+pub loop-index-init : goal.loop-index-init
+loop-index-init c = record {
+  looks = λ e. OnTrue_at e c.may_look-looks.ensures;
+  waits = c.in_ok-bring.ensures.brought;
+  refused = λ e. e;
+  grown = omega arith;
+  above = λ k d from within. c.requires.later k d within;
+  joined = λ of before was alike holds. subst (λ (es : List Entry). HasJoined c.args.self.now of es)
+      (sym (append-nil before)) was;
+  window = λ of before was alike holds earlier so_far.
+      ap (λ xs. earlier ++ xs) c.in_ok-bring.ensures.same ∙ so_far
+      ∙ ap (joined_events of) (sym (append-nil before));
+}
 
-pub returns-in-Clear-clause-joined : goal.returns-in-Clear-clause-joined
-returns-in-Clear-clause-joined c =
-    let claim = told c.in-Clear.is_said c.in-Clear.claim.now in
-    on_ok c.add_usual.result
-    (λ passes companion events joined alike holds.
-    joins_on (companion_view c.args.head.now) companion alike c.args.claims.now c.args.nices.now c.args.charges.now
-    (news_of claim) events c.args.event.now c.args.self.now joined c.requires.later holds c.in-Clear.ensures.2
-    c.add_usual.new.self passes) c.add_usual.ensures.passed
+pub add_next-requires-clause-first : goal.add_next-requires-clause-first
+add_next-requires-clause-first c = (
+  drop (c.loop-index.index + 1) c.args.events.now,
+  c.loop-index.invariant.waits ∙ next_waits c.args.events.now c.loop-index.index c.index-events-index.result
+      (let t = c.loop-index-test.true in omega (arith, t)) c.index-events-index.is,
+)
 
-pub returns-in-Clear-clause-window : goal.returns-in-Clear-clause-window
-returns-in-Clear-clause-window c =
-    let claim = told c.in-Clear.is_said c.in-Clear.claim.now in
-    on_ok c.add_usual.result
-    (λ said companion events joined alike holds before so_far.
-    ap (λ xs. before ++ xs) said
-    ∙ adds_on (companion_view c.args.head.now) companion alike c.args.claims.now c.args.nices.now
-    c.args.charges.now (news_of claim) events c.args.event.now c.args.self.now joined c.requires.later holds
-    c.in-Clear.ensures.2 before _ _ refl so_far) c.add_usual.ensures.said
+pub loop-index-preserved : goal.loop-index-preserved
+loop-index-preserved c =
+    let before = c.loop-index.invariant in
+    let first = c.args.self.now in
+    let i = c.loop-index.index in
+    let events = c.args.events.now in
+    let event = c.index-events-index.result in
+    let is = c.index-events-index.is in
+    let within : i < length events = (let t = c.loop-index-test.true in omega (arith, t)) in
+    let e = c.in_ok-looks.ensures in
+    record {
+      looks = e.looks;
+      waits = e.rest (drop (i + 1) events) (before.waits ∙ next_waits events i event within is);
+      refused = λ was. e.refused (before.refused was);
+      grown = (let g = before.grown in let l = e.line in
+          let below : c.loop-index.self.line < event.line =
+          subst (λ (x : Entry). c.loop-index.self.line < x.line) (sym is) (before.above i event (omega arith) within) in
+          omega (arith, g, l, below));
+      above = λ k d from inside. subst (λ line. line < (get_or events k d).line) (sym e.line)
+          (rest_behind events i k event d c.requires.rise (omega (arith, from)) inside is);
+      joined = λ of so_far was alike holds.
+          subst (HasJoined c.add_next.new.self of) (after_one so_far events i event within is)
+          (e.joined of (so_far ++ take i events) (before.joined of so_far was alike holds) alike
+          (held_on first.line c.loop-index.self.line of c.args.claims.now c.args.nices.now c.args.charges.now
+          before.grown holds));
+      window = λ of so_far was alike holds earlier parts.
+          e.window of (so_far ++ take i events) (before.joined of so_far was alike holds) alike
+          (held_on first.line c.loop-index.self.line of c.args.claims.now c.args.nices.now c.args.charges.now
+          before.grown holds) earlier (before.window of so_far was alike holds earlier parts)
+          ∙ ap (joined_events of) (after_one so_far events i event within is);
+    }

@@ -137,6 +137,6 @@ returns-clause-window c companion events joined alike holds before so_far =
       charges = c.between-charge.ensures;
       idles = idles;
     } in
-    ap (λ xs. before ++ xs) c.in_ok-add.ensures.added
+    ap (λ xs. before ++ xs) c.in_ok-say.ensures.added
     ∙ adds_on head companion alike c.args.claims.now c.args.nices.now c.args.charges.now news events c.args.event.now
     c.args.self.now joined c.requires.later holds new before _ _ c.saying-saying.ensures so_far

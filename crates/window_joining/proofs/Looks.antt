@@ -137,10 +137,10 @@ nothing_in f low high items none = record {
   beyond = λ k d h. absurd (omega (arith, h));
 }
 
-pub news_by_look : (lists : ListsView) (joining : Joining) (low high : ℕ) (claim : Option Claim)
-    → MayLook lists joining → IsCut Claim (λ claim. claim.line) low high lists.claims (option_to_list claim)
+pub news_by_look : (lists : ListsView) (joining : Joining) (next low high : ℕ) (claim : Option Claim)
+    → MayLook lists joining next → IsCut Claim (λ claim. claim.line) low high lists.claims (option_to_list claim)
     → IsNews low high lists (news_of claim)
-news_by_look lists joining low high claim looks cut = record {
+news_by_look lists joining next low high claim looks cut = record {
   claims = cut;
   nices = nothing_in (λ (change : NiceLine). change.line) low high lists.nices looks.nices;
   charges = nothing_in (λ (charge : ChargeLine). charge.line) low high lists.charges looks.charges;

@@ -36,11 +36,11 @@ abbrev pub WillPass : List Claim → ℕ → Look → Type 0
 WillPass claims line (Clear claim is_said behind) = ArePassed claims behind line
 WillPass claims line Unclear = Unit {0}
 
--- one look at the next claim may tell what is new of the next event: nothing but claims is said, nobody is of the idle
--- policy, and the claims before the next are passed
-pub record MayLook (lists : ListsView) (joining : Joining) : Type 0 where
+-- one look at the claim at an index may tell what is new of the next event: nothing but claims is said, nobody is of
+-- the idle policy, and the claims before it are passed
+pub record MayLook (lists : ListsView) (joining : Joining) (next : ℕ) : Type 0 where
   pub usual : AreUsual joining.policies
   pub nices : lists.nices ≡ []
   pub charges : lists.charges ≡ []
   pub idles : lists.idles ≡ []
-  pub passed : ArePassed lists.claims joining.hints.claims joining.line
+  pub passed : ArePassed lists.claims next joining.line

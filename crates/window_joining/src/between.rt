@@ -32,7 +32,7 @@ fn count_from<T: OnLine>(items: &[T], from: usize, line: u32) -> usize
 }
 
 /// How many of these items stand on lines up to this one. The hint is how many there may be at least.
-fn through<T: OnLine>(items: &[T], hint: usize, line: u32) -> usize
+pub(crate) fn through<T: OnLine>(items: &[T], hint: usize, line: u32) -> usize
     requires { AllPairs (λ a b. T.line a ≤ T.line b) items.now }
     ensures { IsThrough _ T.line items.now line result }
 {

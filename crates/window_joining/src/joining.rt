@@ -1,9 +1,9 @@
 ghost use Rattle.std.specs.Prelude.{◌≡◌, ℕ, ◌<◌};
 ghost use Rattle.std.specs.List.{AllPairs};
 
-use crate::between::{between, first_behind, last_on};
+use crate::between::{between, first_behind, last_on, through};
 use crate::hints::Hints;
-use crate::look::{Look, are_passed, look_at};
+use crate::look::{Look, look_at};
 use crate::policies::Policies;
 use crate::refusing::{note_late, note_outside};
 use crate::strays::{lesser, stray_in};
@@ -31,7 +31,6 @@ pub struct Joining {
 impl Joining {
     ghost use Rattle.std.specs.Prelude.{◌≤◌, ◌++◌, ◌∷◌, [], All, List, IfOk, IfSome, OnOk, IsSome, MatchOption, Some};
     ghost use Rattle.std.specs.Prelude.{true};
-    ghost use Rattle.std.specs.Bool.{OnTrue};
     ghost use Rattle.std.specs.Option.{option_to_list};
     ghost use Rattle.cfs_model.specs.Claimed.{Claimed, policy_told, with_claim};
     ghost use Rattle.cfs_model.specs.Limits.{no_line};
@@ -118,57 +117,57 @@ impl Joining {
         ensures refused { OnOk result (is_refused self.old ≡ true → is_refused self.new ≡ true) }
     {
         window.bring(events)?;
-        let mut looks = self.may_look(head, claims, nices, charges);
+        let mut passed = self.passed_claims(head, claims, nices, charges);
         for index in 0..events.len() {
             let event = &events[index];
-            looks = self.add_next(looks, head, event, claims, nices, charges, window)?;
+            passed = self.add_next(passed, head, event, claims, nices, charges, window)?;
         }
         Ok(())
     }
 
-    /// Whether one look at the next claim may tell what is new of the next event.
-    fn may_look(
+    /// How many claims are passed, where one look at the next may tell what is new of the next event.
+    fn passed_claims(
         &self,
         head: &Companion,
         claims: &[Claim],
         nices: &[NiceLine],
         charges: &[ChargeLine],
-    ) -> bool
+    ) -> Option<usize>
         requires claims_rise { AllPairs (λ a b. a.line < b.line) claims.now }
-        ensures { OnTrue result (MayLook (record {
+        ensures { IfSome result (MayLook (record {
           claims = claims.now;
           nices = nices.now;
           charges = charges.now;
           idles = head.now.idles;
         }) self.now) }
     {
-        nices.is_empty()
-            && charges.is_empty()
-            && head.idles().is_empty()
-            && self.policies.are_usual()
-            && are_passed(claims, self.hints.claims, self.line)
+        let more_is_said = !nices.is_empty() || !charges.is_empty() || !head.idles().is_empty();
+        if more_is_said || !self.policies.are_usual() {
+            return None;
+        }
+        Some(through(claims, self.hints.claims, self.line))
     }
 
-    /// Joins one more event, the first that waits in a window. Says whether a look at the next claim may tell what is
-    /// new of the one behind it, as it may have of this one.
+    /// Joins one more event, the first that waits in a window. Says how many claims are passed then, where one look at
+    /// the next may tell what is new of the event behind it, as it may have of this one.
     #[inline(always)]
     fn add_next(
         &mut self,
-        looks: bool,
+        passed: Option<usize>,
         head: &Companion,
         event: &Entry,
         claims: &[Claim],
         nices: &[NiceLine],
         charges: &[ChargeLine],
         window: &mut Window,
-    ) -> Result<bool, Memory>
+    ) -> Result<Option<usize>, Memory>
         requires first { (rest : List Event) × (waiting window.old ≡ event.now ∷ rest) }
-        requires looks { looks ≡ true → MayLook (record {
+        requires looks { IfSome passed (MayLook (record {
           claims = claims.now;
           nices = nices.now;
           charges = charges.now;
           idles = head.now.idles;
-        }) self.old }
+        }) self.old) }
         requires later { self.old.line < event.now.line }
         requires claims_rise { AllPairs (λ a b. a.line < b.line) claims.now }
         requires nices_rise { AllPairs (λ a b. a.line < b.line) nices.now }
@@ -182,31 +181,31 @@ impl Joining {
             → before ++ window_view window.new ≡ joined_events c (events ++ event.now ∷ [])) }
         ensures rest { (rest : List Event) → waiting window.old ≡ event.now ∷ rest
             → OnOk result (waiting window.new ≡ rest) }
-        ensures looks { IfOk result (λ looks. looks ≡ true → MayLook (record {
+        ensures looks { IfOk result (λ passed. IfSome passed (MayLook (record {
           claims = claims.now;
           nices = nices.now;
           charges = charges.now;
           idles = head.now.idles;
-        }) self.new) }
+        }) self.new)) }
         ensures refused { OnOk result (is_refused self.old ≡ true → is_refused self.new ≡ true) }
         ensures line { OnOk result (self.new.line ≡ event.now.line) }
     {
-        if !looks {
+        let Some(next) = passed else {
             self.add_by_lists(head, event, claims, nices, charges, window)?;
-            return Ok(false);
-        }
-        match look_at(claims, self.hints.claims, self.line, event.line) {
+            return Ok(None);
+        };
+        match look_at(claims, next, self.line, event.line) {
             Look::Clear {
                 claim,
                 is_said,
                 passed,
             } => {
                 self.add_usual(head, event, claim, is_said, passed, window)?;
-                Ok(true)
+                Ok(Some(passed))
             }
             Look::Unclear => {
                 self.add_by_lists(head, event, claims, nices, charges, window)?;
-                Ok(false)
+                Ok(None)
             }
         }
     }

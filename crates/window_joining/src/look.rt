@@ -1,5 +1,4 @@
 ghost use Rattle.std.specs.Prelude.{◌<◌};
-ghost use Rattle.std.specs.Bool.{OnTrue};
 ghost use Rattle.std.specs.List.{AllPairs};
 ghost use Rattle.window_joining.specs.Look.{ArePassed, IsSeen, WillPass};
 
@@ -54,18 +53,4 @@ pub(crate) fn look_at(claims: &[Claim], next: usize, low: u32, line: u32) -> Loo
         is_said,
         passed: next + usize::from(is_said),
     }
-}
-
-/// Whether the claims before an index stand on lines up to this one, which the last of them tells.
-pub(crate) fn are_passed(claims: &[Claim], next: usize, line: u32) -> bool
-    requires { AllPairs (λ a b. a.line < b.line) claims.now }
-    ensures { OnTrue result (ArePassed claims.now next line) }
-{
-    if next == 0 {
-        return true;
-    }
-    if next > claims.len() || line < claims[next - 1].line {
-        return false;
-    }
-    true
 }

@@ -1,5 +1,4 @@
 use Rattle.std.proofs.Common.{◌<◌, ◌+◌, ◌++◌, List, drop, length, get_or, take}
-use Rattle.std.proofs.lemmas.Bool.{OnTrue_at}
 use Rattle.std.proofs.Common.{append-nil, sym, ap, subst, arith, ◌∙◌}
 use Rattle.cfs_model.specs.declared.act.Entry.{Entry}
 use Rattle.window_joining.proofs.Adding.{after_one, held_on, next_waits, rest_behind}
@@ -8,7 +7,7 @@ use Rattle.window_joining.proofs.joining.Joining.add.Goals as goal
 
 pub loop-index-init : goal.loop-index-init
 loop-index-init c = record {
-  looks = λ e. OnTrue_at e c.may_look-looks.ensures;
+  looks = c.passed_claims-passed.ensures;
   waits = c.in_ok-bring.ensures.brought;
   refused = λ e. e;
   grown = omega arith;
@@ -36,7 +35,7 @@ loop-index-preserved c =
     let event = c.index-events-index.result in
     let is = c.index-events-index.is in
     let within : i < length events = (let t = c.loop-index-test.true in omega (arith, t)) in
-    let e = c.in_ok-looks.ensures in
+    let e = c.in_ok-passed.ensures in
     record {
       looks = e.looks;
       waits = e.rest (drop (i + 1) events) (before.waits ∙ next_waits events i event within is);

@@ -1,5 +1,6 @@
 -- So many of the events were joined, and the others wait, below them.
 use Rattle.std.proofs.Common.{◌≡◌, ℕ, ◌<◌, ◌≤◌, true, List, ◌++◌, drop, length, get_or, take}
+use Rattle.std.specs.Prelude.{IfSome}
 use Rattle.cfs_model.specs.Claimed.{Claimed}
 use Rattle.cfs_model.specs.declared.act.Entry.{Entry}
 use Rattle.companion_file.specs.Companion.{CompanionView}
@@ -14,7 +15,7 @@ abbrev pub invariant-loop-index : goal.invariant-loop-index
 invariant-loop-index l =
     let first = l.fn.self in
     record {
-      looks : l.looks ≡ true → MayLook (held (companion_view l.head) l.claims l.nices l.charges) l.self;
+      looks : IfSome l.passed (MayLook (held (companion_view l.head) l.claims l.nices l.charges) l.self);
       waits : waiting l.window ≡ drop l.index l.events;
       refused : is_refused first ≡ true → is_refused l.self ≡ true;
       grown : first.line ≤ l.self.line;

@@ -1,9 +1,10 @@
 -- Where a look tells what is new, an event is added by that; so what is known goes on as by all lists.
-use Rattle.std.proofs.Common.{◌++◌, refl, ap, ◌∙◌}
+use Rattle.std.proofs.Common.{◌++◌, refl, ap, ◌∙◌, subst}
+use Rattle.std.specs.Prelude.{IfSome}
 use Rattle.companion_file.specs.Seen.{companion_view}
 use Rattle.window_joining.proofs.Joined.{adds_on, held, joins_on}
 use Rattle.window_joining.proofs.Looks.{news_by_look}
-use Rattle.window_joining.specs.Look.{news_of, told}
+use Rattle.window_joining.specs.Look.{MayLook, news_of, told}
 use Rattle.window_joining.proofs.joining.Joining.add_next.Goals as goal
 
 pub returns-in_ok-add_usual-in-Clear-clause-joined : goal.returns-in_ok-add_usual-in-Clear-clause-joined
@@ -11,8 +12,9 @@ returns-in_ok-add_usual-in-Clear-clause-joined c companion events joined alike h
     let head = companion_view c.args.head.now in
     let before = c.args.self.now in
     let claim = told c.in-Clear.is_said c.in-Clear.claim.now in
-    let new = news_by_look (held head c.args.claims.now c.args.nices.now c.args.charges.now) before before.line
-    c.args.event.now.line claim (c.requires.looks c.if-not-looks.false) c.in-Clear.ensures.seen.1 in
+    let lists = held head c.args.claims.now c.args.nices.now c.args.charges.now in
+    let new = news_by_look lists before c.in-Some.next before.line c.args.event.now.line claim
+    (subst (λ passed. IfSome passed (MayLook lists before)) c.in-Some.is c.requires.looks) c.in-Clear.ensures.seen.1 in
     joins_on head companion alike c.args.claims.now c.args.nices.now c.args.charges.now (news_of claim) events
     c.args.event.now before joined c.requires.later holds new c.add_usual.new.self
     c.in_ok-add_usual-in-Clear.ensures.passed
@@ -22,8 +24,9 @@ returns-in_ok-add_usual-in-Clear-clause-window c companion events joined alike h
     let head = companion_view c.args.head.now in
     let before = c.args.self.now in
     let claim = told c.in-Clear.is_said c.in-Clear.claim.now in
-    let new = news_by_look (held head c.args.claims.now c.args.nices.now c.args.charges.now) before before.line
-    c.args.event.now.line claim (c.requires.looks c.if-not-looks.false) c.in-Clear.ensures.seen.1 in
+    let lists = held head c.args.claims.now c.args.nices.now c.args.charges.now in
+    let new = news_by_look lists before c.in-Some.next before.line c.args.event.now.line claim
+    (subst (λ passed. IfSome passed (MayLook lists before)) c.in-Some.is c.requires.looks) c.in-Clear.ensures.seen.1 in
     ap (λ xs. earlier ++ xs) c.in_ok-add_usual-in-Clear.ensures.said
     ∙ adds_on head companion alike c.args.claims.now c.args.nices.now c.args.charges.now (news_of claim) events
     c.args.event.now before joined c.requires.later holds new earlier _ _ refl so_far

@@ -27,7 +27,7 @@ use Rattle.window_joining.specs.declared.joining.Joining.{Joining}
 use Rattle.window_laws.specs.ClaimedParts.{policies_through}
 
 -- the edge is the last event's line
-edge_more : (line : ℕ) (events : List Entry) (event : Entry) → edge_from line (events ++ event ∷ []) ≡ event.line
+pub edge_more : (line : ℕ) (events : List Entry) (event : Entry) → edge_from line (events ++ event ∷ []) ≡ event.line
 edge_more line [] event = refl
 edge_more line (x ∷ events) event = edge_more x.line events event
 

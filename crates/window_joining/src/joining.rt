@@ -39,7 +39,7 @@ impl Joining {
     ghost use Rattle.companion_file.specs.Seen.{companion_view};
     ghost use Rattle.sched_record.specs.Join.{IsLeastOf, RecordAnswer};
     ghost use Rattle.sched_record.specs.Window.{said_of, waiting, window_view};
-    ghost use Rattle.window_joining.specs.Joining.{HasJoined, IsHeadOf, IsHeld, StandBehind, is_refused};
+    ghost use Rattle.window_joining.specs.Joining.{HasJoined, IsHeadOf, IsHeld, StandBehind, edge_from, is_refused};
     ghost use Rattle.window_joining.specs.Joining.{joined_answer};
     ghost use Rattle.window_joining.specs.Joining.{joined_events, rank_of};
     ghost use Rattle.window_joining.specs.Look.{MayLook, news_of, told};
@@ -114,7 +114,9 @@ impl Joining {
             → IsHeadOf (companion_view head.now) c → IsHeld self.old.line c claims.now nices.now charges.now
             → (earlier : List Claimed) → earlier ++ window_view window.old ≡ joined_events c before
             → earlier ++ window_view window.new ≡ joined_events c (before ++ events.now)) }
+        ensures rest { OnOk result (waiting window.new ≡ []) }
         ensures refused { OnOk result (is_refused self.old ≡ true → is_refused self.new ≡ true) }
+        ensures line { OnOk result (self.new.line ≡ edge_from self.old.line events.now) }
     {
         window.bring(events)?;
         let mut passed = self.passed_claims(head, claims, nices, charges);
@@ -233,7 +235,6 @@ impl Joining {
         ensures rest { (rest : List Event) → waiting window.old ≡ event.now ∷ rest
             → OnOk result (waiting window.new ≡ rest) }
         ensures policies { self.new.policies ≡ self.old.policies }
-        ensures hint { OnOk result (self.new.hints.claims ≡ claims) }
     {
         window.say_claim(event, claim, is_said)?;
         note_outside(&mut self.outside, event, head.cpus());

@@ -1,8 +1,9 @@
 use Rattle.std.proofs.Common.{◌<◌, ◌+◌, ◌++◌, List, drop, length, get_or, take}
-use Rattle.std.proofs.Common.{append-nil, sym, ap, subst, arith, ◌∙◌}
+use Rattle.std.proofs.Common.{[], refl, append-nil, sym, ap, subst, arith, ◌∙◌}
 use Rattle.cfs_model.specs.declared.act.Entry.{Entry}
 use Rattle.window_joining.proofs.Adding.{after_one, held_on, next_waits, rest_behind}
-use Rattle.window_joining.specs.Joining.{HasJoined, joined_events}
+use Rattle.window_joining.proofs.Joined.{edge_more}
+use Rattle.window_joining.specs.Joining.{HasJoined, edge_from, joined_events}
 use Rattle.window_joining.proofs.joining.Joining.add.Goals as goal
 
 pub loop-index-init : goal.loop-index-init
@@ -11,6 +12,7 @@ loop-index-init c = record {
   waits = c.in_ok-bring.ensures.brought;
   refused = λ e. e;
   grown = omega arith;
+  line = refl;
   above = λ k d from within. c.requires.later k d within;
   joined = λ of before was alike holds. subst (λ (es : List Entry). HasJoined c.args.self.now of es)
       (sym (append-nil before)) was;
@@ -44,6 +46,8 @@ loop-index-preserved c =
           let below : c.loop-index.self.line < event.line =
           subst (λ (x : Entry). c.loop-index.self.line < x.line) (sym is) (before.above i event (omega arith) within) in
           omega (arith, g, l, below));
+      line = e.line ∙ sym (edge_more first.line (take i events) event)
+          ∙ ap (edge_from first.line) (after_one [] events i event within is);
       above = λ k d from inside. subst (λ line. line < (get_or events k d).line) (sym e.line)
           (rest_behind events i k event d c.requires.rise (omega (arith, from)) inside is);
       joined = λ of so_far was alike holds.

@@ -7,7 +7,7 @@ use Rattle.companion_file.specs.Companion.{CompanionView}
 use Rattle.companion_file.specs.Seen.{companion_view}
 use Rattle.sched_record.specs.Window.{waiting, window_view}
 use Rattle.window_joining.proofs.Joined.{held}
-use Rattle.window_joining.specs.Joining.{HasJoined, IsHeadOf, IsHeld, is_refused, joined_events}
+use Rattle.window_joining.specs.Joining.{HasJoined, IsHeadOf, IsHeld, edge_from, is_refused, joined_events}
 use Rattle.window_joining.specs.Look.{MayLook}
 use Rattle.window_joining.proofs.joining.Joining.add.Given as goal
 
@@ -19,6 +19,7 @@ invariant-loop-index l =
       waits : waiting l.window ≡ drop l.index l.events;
       refused : is_refused first ≡ true → is_refused l.self ≡ true;
       grown : first.line ≤ l.self.line;
+      line : l.self.line ≡ edge_from first.line (take l.index l.events);
       above : (k : ℕ) (d : Entry) → l.index ≤ k → k < length l.events → l.self.line < (get_or l.events k d).line;
       joined : (c : CompanionView) (before : List Entry) → HasJoined first c before
           → IsHeadOf (companion_view l.head) c → IsHeld first.line c l.claims l.nices l.charges
